@@ -1,0 +1,3 @@
+pub mod Steps
+mod Forward
+pub mod Backward

@@ -1,0 +1,4 @@
+pub mod Zones
+pub mod Writing
+pub mod Reading
+pub mod Accepted

@@ -1,0 +1,3 @@
+mod Groups
+pub mod Forms
+pub mod Signs
