@@ -1,6 +1,5 @@
 -- What the calendar answers for a day or a date, in the terms in which it is reckoned.
 use mathlib.Core.Path.{_≡_, sym, ap, _∙_}
-use mathlib.Core.Bool.{true}
 use Prim.Native.Nat.{ℕ, _+_, _-_, _<_, _≤_}
 use native.Mathlib.Omega.{arith}
 use lib.Dec.{ltb}
@@ -15,10 +14,6 @@ use Rattle.gregorian.proofs.Checks.{answer-is}
 use Rattle.gregorian.proofs.Dates.{Valid, numbered-at, numbered-not}
 use Rattle.gregorian.proofs.Months.{month-is, number-is, number-small, table-is}
 use Rattle.gregorian.proofs.RoundTrip.{date-is}
-
--- a day that has a date is one of the calendar
-pub dated-ok : (n : ℕ) (x : Date) → Ok x ≡ dated n → (ltb n 36525 ≡ true) × (dateOf n ≡ x)
-dated-ok n x e = let p = answer-is (ltb n 36525) x (dateOf n) e in (p .0, sym (p .1))
 
 -- a date is refused exactly if its day would not come before the next month
 pub number-refused : (y m d : ℕ) → 2000 ≤ y → y ≤ 2099 → 1 ≤ m → m ≤ 12 → 1 ≤ d → startOf (y - 2000) (m - 1 + 1) ≤ startOf (y - 2000) (m - 1) + (d - 1) → Err NotInCalendar ≡ numbered y m d
@@ -40,10 +35,13 @@ number-at y m d n v e =
     record { value = ap Ok q ∙ sym (numbered-at y m d v); back = ap dated q ∙ date-is y m d v; inside = omega (arith, q, number-small y m d v) }
 
 -- the calendar place by the table of a leap year
+pub table-small : (x : Date) → Ranged x → getD starts (x .month - 1) 0 ≤ 335
+table-small x r = table-is (x .month - 1) (omega (arith, r .month-from, r .month-to)) .1
+
 pub place-is : (n : ℕ) (x : Date) → Ok x ≡ dated n → Ranged x → Ok (getD starts (x .month - 1) 0 + x .day) ≡ inCalendar n (placeOf (dateOf n))
 place-is n x e r =
-    let k = dated-ok n x e in
-    let t : getD starts (x .month - 1) 0 ≡ monthStart 2000 (x .month - 1 + 1) = table-is (x .month - 1) (omega (arith, r .month-to, r .month-from)) .0 in
+    let p = answer-is (ltb n 36525) x (dateOf n) e in
+    let t = table-is (x .month - 1) (omega (arith, r .month-from, r .month-to)) .0 in
     let em : x .month - 1 + 1 ≡ x .month = omega (arith, r .month-from) in
-    ap (λ a. Ok (a + x .day)) (t ∙ ap (monthStart 2000) em) ∙ ap (λ a. Ok (placeOf a)) (sym (k .1))
-    ∙ sym (cond-true (ltb n 36525) (Ok (placeOf (dateOf n))) (Err NotInCalendar) (k .0))
+    ap (λ a. Ok (a + x .day)) (t ∙ ap (monthStart 2000) em) ∙ ap (λ a. Ok (placeOf a)) (p .1)
+    ∙ sym (cond-true (ltb n 36525) (Ok (placeOf (dateOf n))) (Err NotInCalendar) (p .0))

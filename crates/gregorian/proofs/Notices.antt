@@ -1,6 +1,6 @@
 -- The effective day of a notice: up to which day there is one, and that it comes after the notice.
 use mathlib.Core.Path.{_≡_, refl, sym, ap, subst, _∙_}
-use mathlib.Core.Bool.{Bool, true, false, _&&_, cond}
+use mathlib.Core.Bool.{Bool, true, _&&_, cond}
 use mathlib.Core.Logic.{inl, inr}
 use Prim.Native.Nat.{ℕ, _+_, _-_, _<_, _≤_}
 use native.Mathlib.Omega.{arith}
@@ -8,14 +8,17 @@ use lib.Dec.{ltb, leb}
 use Rattle.std.proofs.shelf.Tests.{cases-eq, cases-lt, cond-true, cond-false, lt-ltb, le-ltb, le-leb, lt-leb}
 use Rattle.std.proofs.shelf.Ways.{tells}
 use Rattle.std.specs.Results.{isOk}
+use Rattle.std.specs.Vec.{made}
+use Rattle.std.specs.declared.result.Result.{Result}
 use Rattle.std.specs.declared.result.Result.the-variants.{Ok, Err}
 use Rattle.gregorian.specs.declared.kinds.Date.{Date}
+use Rattle.gregorian.specs.declared.kinds.CalendarFault.{CalendarFault}
 use Rattle.gregorian.specs.declared.kinds.CalendarFault.the-variants.{NotInCalendar}
-use Rattle.gregorian.specs.Calendar.{daysIn, dateOf, dayOf, numbered, after, effectiveYear, effective}
+use Rattle.gregorian.specs.Calendar.{daysIn, dateOf, numbered, after, effectiveYear, effective}
 use Rattle.gregorian.specs.Reckon.{reckonedDate, startOf}
 use Rattle.gregorian.proofs.Checks.{allBelow, passed}
 use Rattle.gregorian.proofs.Dates.{Valid, numbered-at, numbered-not, numbered-ok}
-use Rattle.gregorian.proofs.Months.{month-of, number-is}
+use Rattle.gregorian.proofs.Months.{month-of, number-is, number-small}
 use Rattle.gregorian.proofs.Cycles.{Numbers, numbers, reckoned-is}
 
 -- a month of the year 2000 + k, from day s to the day before t, where a and b are 1 December of that year and of the next:
@@ -120,9 +123,19 @@ effective-until n =
       | inr far ↦ ap isOk (cond-false (ltb n 36525) (numbered y 12 1) (Err NotInCalendar) (le-ltb n 36525 far)) ∙ sym (lt-leb n 36432 (omega arith))
     ]
 
--- and it comes after the notice
-pub effective-later : (n d : ℕ) → n < 36525 → Ok d ≡ numbered (effectiveYear (dateOf n)) 12 1 → n < d
-effective-later n d h e =
+-- and it is a day of the calendar after the notice
+later-by : (n d : ℕ) → n < 36525 → Ok d ≡ numbered (effectiveYear (dateOf n)) 12 1 → (n < d) × (d < 36525)
+later-by n d h e =
+    let y = effectiveYear (dateOf n) in let p = numbered-ok y 12 1 d e in
+    (omega (arith, effective-is n h .later, p .1, number-is y 12 1 (p .0)), omega (arith, p .1, number-small y 12 1 (p .0)))
+
+pub effective-later : (n : ℕ) (r : Result ℕ CalendarFault) → r ≡ effective n → made r (λ d. (n < d) × (d < 36525))
+effective-later n (Err f) e = tt
+effective-later n (Ok d) e =
     let y = effectiveYear (dateOf n) in
-    let p = numbered-ok y 12 1 d e in
-    omega (arith, effective-is n h .later, p .1, number-is y 12 1 (p .0))
+    elim (cases-lt n 36525) [
+      inl h ↦ later-by n d h (e ∙ cond-true (ltb n 36525) (numbered y 12 1) (Err NotInCalendar) (lt-ltb n 36525 h))
+      | inr far ↦
+      let q = e ∙ cond-false (ltb n 36525) (numbered y 12 1) (Err NotInCalendar) (le-ltb n 36525 far) in
+      let z : _≡_ {A = ℕ} 0 1 = cc in absurd (omega arith)
+    ]

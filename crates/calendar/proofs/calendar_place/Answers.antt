@@ -1,19 +1,14 @@
 use native.Mathlib.Omega.{arith}
-use Prim.Native.Nat.{_-_}
-use Rattle.gregorian.proofs.Months.{table-is}
-use Rattle.gregorian.proofs.Answered.{place-is}
+use Rattle.gregorian.proofs.Answered.{table-small, place-is}
 use Rattle.calendar.proofs.calendar_place.Needs as need
 
 pub add-result : need.add-result
-add-result c =
-    let r = c .in-Continue-date .ensures tt .small in
-    omega (arith, table-is (c .in-Continue-date .date .month - 1) (omega (arith, r .month-from, r .month-to)) .1, r .day-to)
+add-result c = let r = c .in-Continue-date .ensures tt .small in omega (arith, table-small (c .in-Continue-date .date) r, r .day-to)
 
 pub returns : need.returns
 returns c =
-    let r = c .in-Continue-date .ensures tt .small in
-    let t = table-is (c .in-Continue-date .date .month - 1) (omega (arith, r .month-from, r .month-to)) .1 in
+    let x = c .in-Continue-date .date in let r = c .in-Continue-date .ensures tt .small in
     record {
-      value = place-is (c .args .day) (c .in-Continue-date .date) (c .in-Continue-date .ensures tt .value) r;
-      range = (omega (arith, r .day-from), omega (arith, t, r .day-to))
+      value = place-is (c .args .day) x (c .in-Continue-date .ensures tt .value) r;
+      range = (omega (arith, r .day-from), omega (arith, table-small x r, r .day-to))
     }
