@@ -2,7 +2,7 @@
 ghost use Prim.Native.Nat.{ℕ, _<_};
 ghost use Rattle.std.specs.declared.option.Option.{Option};
 ghost use Rattle.weather.specs.Refusals.{refusalOf};
-ghost use Rattle.weather.specs.Temperatures.{Ranged};
+ghost use Rattle.weather.specs.Temperatures.{AllRanged, Ranged};
 ghost use Rattle.weather.specs.declared.kinds.WeatherFault.the-variants.{BadNumber};
 ghost use lib.IntN.{ℤ};
 ghost use mathlib.Core.Path.{_≡_};
@@ -10,7 +10,6 @@ ghost use mathlib.Core.Path.{_≡_};
 pub mod kinds;
 
 pub use kinds::WeatherFault;
-
 use packed::NumberFault;
 use refusal::Layer;
 use refusal::Refusal;
@@ -22,6 +21,7 @@ use refusal::Refusal;
 /// tells the meaning and changes nothing.
 pub trait Source {
     ghost mean: { Self → ℕ → ℕ → Option ℤ };
+
     ghost normal: { Self → ℕ → ℕ → Option ℤ };
 
     /// The mean temperature of a day, where it is known.
@@ -33,6 +33,11 @@ pub trait Source {
     fn normal_at(&self, zone: u8, place: u16) -> Option<i16>
         ensures meaning { λ r. ⌜ r ≡ normal (now (self .entry)) zone place ⌝ }
         ensures ranged { λ r. ⌜ Ranged zone place 1 366 r ⌝ };
+
+    /// Shows the range of all that the source means, whatever is asked.
+    fn show_range(&self)
+        ensures means { λ _. ⌜ AllRanged 0 36524 (mean (now (self .entry))) ⌝ }
+        ensures normals { λ _. ⌜ AllRanged 1 366 (normal (now (self .entry))) ⌝ };
 }
 
 impl WeatherFault {
@@ -45,7 +50,12 @@ impl WeatherFault {
             WeatherFault::BadNumber { place } => (21, place as u64),
             WeatherFault::OutOfFormat { place } => (24, place as u64),
         };
-        Refusal { number, layer: Layer::Weather, first, second: 0 }
+        Refusal {
+            number,
+            layer: Layer::Weather,
+            first,
+            second: 0,
+        }
     }
 }
 
