@@ -1,0 +1,1 @@
+-- No lemmas here: the proofs cite those of crate `gregorian`.

@@ -1,0 +1,1 @@
+-- No definitions here: the contracts cite those of crate `gregorian`.

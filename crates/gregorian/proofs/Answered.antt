@@ -8,20 +8,27 @@ use Rattle.std.proofs.shelf.Tests.{cond-true}
 use Rattle.std.specs.declared.result.Result.the-variants.{Ok, Err}
 use Rattle.gregorian.specs.declared.kinds.Date.{Date}
 use Rattle.gregorian.specs.declared.kinds.CalendarFault.the-variants.{NotInCalendar}
-use Rattle.gregorian.specs.Calendar.{dateOf, dayOf, monthStart, numbered, dated, inCalendar, placeOf, Ranged}
+use Rattle.gregorian.specs.Calendar.{daysIn, dateOf, dayOf, monthStart, numbered, dated, inCalendar, placeOf, Ranged}
 use Rattle.gregorian.specs.Reckon.{starts, startOf}
 use Rattle.gregorian.proofs.Checks.{answer-is}
 use Rattle.gregorian.proofs.Dates.{Valid, numbered-at, numbered-not}
 use Rattle.gregorian.proofs.Months.{month-is, number-is, number-small, table-is}
 use Rattle.gregorian.proofs.RoundTrip.{date-is}
 
--- a date is refused exactly if its day would not come before the next month
-pub number-refused : (y m d : ℕ) → 2000 ≤ y → y ≤ 2099 → 1 ≤ m → m ≤ 12 → 1 ≤ d → startOf (y - 2000) (m - 1 + 1) ≤ startOf (y - 2000) (m - 1) + (d - 1) → Err NotInCalendar ≡ numbered y m d
-number-refused y m d a b c e f h = sym (numbered-not y m d (λ v. omega (arith, month-is y m a b c e .long, v .day-to)))
+-- a day is one of its month exactly if it comes before the next month
+length-is : (y m : ℕ) → 2000 ≤ y → y ≤ 2099 → 1 ≤ m → m ≤ 12 → daysIn y m ≡ startOf (y - 2000) m - startOf (y - 2000) (m - 1)
+length-is y m a b c e =
+    let em : m - 1 + 1 ≡ m = omega arith in
+    month-is y m a b c e .long ∙ ap (λ n. startOf (y - 2000) n - startOf (y - 2000) (m - 1)) em
 
-pub number-valid : (y m d : ℕ) → 2000 ≤ y → y ≤ 2099 → 1 ≤ m → m ≤ 12 → 1 ≤ d → startOf (y - 2000) (m - 1) + (d - 1) < startOf (y - 2000) (m - 1 + 1) → Valid y m d
+pub number-refused : (y m d : ℕ) → 2000 ≤ y → y ≤ 2099 → 1 ≤ m → m ≤ 12 → 1 ≤ d
+    → startOf (y - 2000) m ≤ startOf (y - 2000) (m - 1) + (d - 1) → Err NotInCalendar ≡ numbered y m d
+number-refused y m d a b c e f h = sym (numbered-not y m d (λ v. omega (arith, length-is y m a b c e, v .day-to)))
+
+pub number-valid : (y m d : ℕ) → 2000 ≤ y → y ≤ 2099 → 1 ≤ m → m ≤ 12 → 1 ≤ d
+    → startOf (y - 2000) (m - 1) + (d - 1) < startOf (y - 2000) m → Valid y m d
 number-valid y m d a b c e f h =
-    record { year-from = a; year-to = b; month-from = c; month-to = e; day-from = f; day-to = omega (arith, month-is y m a b c e .long) }
+    record { year-from = a; year-to = b; month-from = c; month-to = e; day-from = f; day-to = omega (arith, length-is y m a b c e) }
 
 -- what is known of the number of a date
 pub record Number (y m d n : ℕ) : Type 0 where

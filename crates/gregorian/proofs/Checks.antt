@@ -21,6 +21,12 @@ passed f (suc n) t k h =
     let parts = and-parts (f n) (allBelow n f) t in
     elim (cases-eq k n) [ inl e ↦ rw e (parts .0) | inr ne ↦ passed f n (parts .1) k (omega arith) ]
 
+-- the parts of a test
+pub three-parts : {a b c : Bool} → (a && (b && c)) ≡ true → (a ≡ true) × (b ≡ true) × (c ≡ true)
+three-parts {a} {b} {c} t =
+    let p = and-parts a (b && c) t in let q = and-parts b c (p .1) in
+    (p .0, q .0, q .1)
+
 -- an answer comes where the test passes
 pub answer-is : {A : Type 0} (b : Bool) (x y : A) → Ok x ≡ cond b (Ok y) (Err NotInCalendar) → (b ≡ true) × (x ≡ y)
 answer-is true x y e = (refl, cc)
@@ -39,9 +45,8 @@ same a b = eqb (a .year) (b .year) && (eqb (a .month) (b .month) && eqb (a .day)
 
 pub same-is : (a b : Date) → same a b ≡ true → a ≡ b
 same-is a b t =
-    let p = and-parts (eqb (a .year) (b .year)) (eqb (a .month) (b .month) && eqb (a .day) (b .day)) t in
-    let q = and-parts (eqb (a .month) (b .month)) (eqb (a .day) (b .day)) (p .1) in
-    by-parts a b (eqb-true (a .year) (b .year) (p .0)) (eqb-true (a .month) (b .month) (q .0)) (eqb-true (a .day) (b .day) (q .1))
+    let p = three-parts t in
+    by-parts a b (eqb-true (a .year) (b .year) (p .0)) (eqb-true (a .month) (b .month) (p .1)) (eqb-true (a .day) (b .day) (p .2))
 
 -- the two tests say the same
 abbrev pub alike : Bool → Bool → Bool

@@ -5,12 +5,12 @@ use mathlib.Core.Logic.{inl, inr}
 use Prim.Native.Nat.{ℕ, zero, suc, _+_, _-_, _*_, _/_, _%_, _<_, _≤_}
 use native.Mathlib.Omega.{arith}
 use lib.Dec.{eqb, ltb, leb}
-use Rattle.std.proofs.shelf.Tests.{and-parts, cases-lt, eqb-true, leb-true}
+use Rattle.std.proofs.shelf.Tests.{cases-lt, eqb-true, leb-true}
 use Rattle.std.proofs.shelf.Ways.{tells}
 use Rattle.gregorian.specs.declared.kinds.Date.{Date}
 use Rattle.gregorian.specs.Calendar.{leap, daysIn, tomorrow, dateOf, valid}
 use Rattle.gregorian.specs.Reckon.{inCycle, moved, reckonedDate, gap, startOf}
-use Rattle.gregorian.proofs.Checks.{allBelow, passed, same, same-is, alike, alike-is}
+use Rattle.gregorian.proofs.Checks.{allBelow, passed, three-parts, same, same-is, alike, alike-is}
 use Rattle.gregorian.proofs.Dates.{Valid, valid-parts}
 
 -- x is a date of the calendar, and n its number in closed form
@@ -19,29 +19,25 @@ pub record Numbers (x : Date) (n : ℕ) : Type 0 where
   pub at : startOf (x .year - 2000) (x .month - 1) + (x .day - 1) ≡ n
 
 -- each day of the first cycle is the number of its date
-abbrev dayTest : ℕ → Bool
-dayTest r =
-    leb (inCycle r .year) 2003
-    && (valid (inCycle r .year) (inCycle r .month) (inCycle r .day)
-      && eqb (startOf (inCycle r .year - 2000) (inCycle r .month - 1) + (inCycle r .day - 1)) r)
+abbrev dayTest : Date → ℕ → Bool
+dayTest x r =
+    leb (x .year) 2003 && (valid (x .year) (x .month) (x .day) && eqb (startOf (x .year - 2000) (x .month - 1) + (x .day - 1)) r)
 
-dayTests : allBelow 1461 dayTest ≡ true
+dayTests : allBelow 1461 (λ r. dayTest (inCycle r) r) ≡ true
 dayTests = refl
 
-first-by : (x : Date) (r : ℕ) → (leb (x .year) 2003 && (valid (x .year) (x .month) (x .day) && eqb (startOf (x .year - 2000) (x .month - 1) + (x .day - 1)) r)) ≡ true → (x .year ≤ 2003) × Numbers x r
+first-by : (x : Date) (r : ℕ) → dayTest x r ≡ true → (x .year ≤ 2003) × Numbers x r
 first-by x r t =
-    let p = and-parts (leb (x .year) 2003) (valid (x .year) (x .month) (x .day) && eqb (startOf (x .year - 2000) (x .month - 1) + (x .day - 1)) r) t in
-    let q = and-parts (valid (x .year) (x .month) (x .day)) (eqb (startOf (x .year - 2000) (x .month - 1) + (x .day - 1)) r) (p .1) in
-    (
+    let p = three-parts t in (
       leb-true (x .year) 2003 (p .0),
       record {
-        is = valid-parts (x .year) (x .month) (x .day) (q .0);
-        at = eqb-true (startOf (x .year - 2000) (x .month - 1) + (x .day - 1)) r (q .1)
-      }
+        is = valid-parts (x .year) (x .month) (x .day) (p .1);
+        at = eqb-true (startOf (x .year - 2000) (x .month - 1) + (x .day - 1)) r (p .2);
+      },
     )
 
 first-is : (r : ℕ) → r < 1461 → (inCycle r .year ≤ 2003) × Numbers (inCycle r) r
-first-is r h = first-by (inCycle r) r (passed dayTest 1461 dayTests r h)
+first-is r h = first-by (inCycle r) r (passed (λ k. dayTest (inCycle k) k) 1461 dayTests r h)
 
 -- months are as long c cycles later
 abbrev leapTest : ℕ → ℕ → Bool
@@ -76,15 +72,15 @@ numbers-moved n c r x hc e h f =
     let s : startOf (y + 4 * c - 2000) (m - 1) ≡ startOf (y - 2000) (m - 1) + 1461 * c = ap (λ a. startOf a (m - 1)) k ∙ start-moved (y - 2000) c (m - 1) in
     record {
       is =
-        record {
-          year-from = omega (arith, v .year-from);
-          year-to = omega arith;
-          month-from = v .month-from;
-          month-to = v .month-to;
-          day-from = v .day-from;
-          day-to = rw (days-moved y c m (v .year-from) h hc) (v .day-to)
-        };
-      at = omega (arith, s, f .at)
+          record {
+            year-from = omega (arith, v .year-from);
+            year-to = omega arith;
+            month-from = v .month-from;
+            month-to = v .month-to;
+            day-from = v .day-from;
+            day-to = rw (days-moved y c m (v .year-from) h hc) (v .day-to);
+          };
+      at = omega (arith, s, f .at);
     }
 
 pub numbers : (n : ℕ) → n < 36525 → Numbers (reckonedDate n) n
@@ -129,9 +125,9 @@ step-by n c r hc hr e =
     let f = first-is r hr in
     tomorrow-moved c (inCycle r) (days-moved (inCycle r .year) c (inCycle r .month) (f .1 .is .year-from) (f .0) hc)
     ∙ elim (cases-lt r 1460) [
-      inl lt ↦
-      ap (moved c) (same-is (tomorrow (inCycle r)) (inCycle (suc r)) (passed stepTest 1460 stepTests r lt))
-      ∙ sym (reckoned-at (suc n) c (suc r) (omega arith) (omega arith))
+      | inl lt ↦
+          ap (moved c) (same-is (tomorrow (inCycle r)) (inCycle (suc r)) (passed stepTest 1460 stepTests r lt))
+          ∙ sym (reckoned-at (suc n) c (suc r) (omega arith) (omega arith))
       | inr ge ↦ last-step c r (omega arith) ∙ sym (reckoned-at (suc n) (c + 1) 0 (omega arith) (omega arith))
     ]
 

@@ -38,7 +38,7 @@ valid-parts y m d t =
       month-from = leb-true 1 m (p .2);
       month-to = leb-true m 12 (p .3);
       day-from = leb-true 1 d (p .4);
-      day-to = leb-true d (daysIn y m) (p .5)
+      day-to = leb-true d (daysIn y m) (p .5);
     }
 
 pub valid-from : (y m d : ℕ) → Valid y m d → valid y m d ≡ true
@@ -49,7 +49,7 @@ valid-from y m d v =
       le-leb 1 m (v .month-from),
       le-leb m 12 (v .month-to),
       le-leb 1 d (v .day-from),
-      le-leb d (daysIn y m) (v .day-to)
+      le-leb d (daysIn y m) (v .day-to),
     )
 
 pub valid-not : (y m d : ℕ) → (Valid y m d → ⊥) → valid y m d ≡ false

@@ -1,3 +1,4 @@
+-- The lemmas: the theorem stands in RoundTrip, and what the code cites mostly in Answered and Notices.
 pub mod Checks
 pub mod Dates
 pub mod Months

@@ -8,7 +8,7 @@ use lib.ListN.{getD}
 use Rattle.std.proofs.shelf.Tests.{and-parts, eqb-true, leb-true, ltb-true}
 use Rattle.gregorian.specs.Calendar.{daysIn, daysBefore, monthStart, dayOf, Ranged}
 use Rattle.gregorian.specs.Reckon.{starts, monthAt, inLeapYear, startOf, lengthOf}
-use Rattle.gregorian.proofs.Checks.{allBelow, passed}
+use Rattle.gregorian.proofs.Checks.{allBelow, passed, three-parts}
 use Rattle.gregorian.proofs.Dates.{Valid}
 
 -- each month has the length and the first day that the definition says, and ends in the calendar
@@ -20,14 +20,14 @@ monthTest k m =
 monthTests : allBelow 100 (λ k. allBelow 12 (monthTest k)) ≡ true
 monthTests = refl
 
-month-by : (k m : ℕ) → monthTest k m ≡ true → (daysIn (2000 + k) (m + 1) ≡ lengthOf k m) × (daysBefore k + monthStart (2000 + k) (m + 1) ≡ startOf k m) × (startOf k m + lengthOf k m ≤ 36525)
+month-by : (k m : ℕ) → monthTest k m ≡ true
+    → (daysIn (2000 + k) (m + 1) ≡ lengthOf k m) × (daysBefore k + monthStart (2000 + k) (m + 1) ≡ startOf k m)
+    × (startOf k m + lengthOf k m ≤ 36525)
 month-by k m t =
-    let p = and-parts (eqb (daysIn (2000 + k) (m + 1)) (lengthOf k m)) (eqb (daysBefore k + monthStart (2000 + k) (m + 1)) (startOf k m) && leb (startOf k m + lengthOf k m) 36525) t in
-    let q = and-parts (eqb (daysBefore k + monthStart (2000 + k) (m + 1)) (startOf k m)) (leb (startOf k m + lengthOf k m) 36525) (p .1) in
-    (
+    let p = three-parts t in (
       eqb-true (daysIn (2000 + k) (m + 1)) (lengthOf k m) (p .0),
-      eqb-true (daysBefore k + monthStart (2000 + k) (m + 1)) (startOf k m) (q .0),
-      leb-true (startOf k m + lengthOf k m) 36525 (q .1)
+      eqb-true (daysBefore k + monthStart (2000 + k) (m + 1)) (startOf k m) (p .1),
+      leb-true (startOf k m + lengthOf k m) 36525 (p .2),
     )
 
 -- the same by the year and by the month from 1
@@ -44,7 +44,7 @@ month-is y m a b c d =
     record {
       long = subst (λ (x : ℕ). daysIn x m ≡ lengthOf k n) ey (subst (λ (x : ℕ). daysIn (2000 + k) x ≡ lengthOf k n) em (h .0));
       start = subst (λ (x : ℕ). daysBefore k + monthStart x m ≡ startOf k n) ey (subst (λ (x : ℕ). daysBefore k + monthStart (2000 + k) x ≡ startOf k n) em (h .1));
-      room = h .2
+      room = h .2;
     }
 
 pub month-of : (y m d : ℕ) → Valid y m d → Month y m
@@ -77,10 +77,10 @@ rangeTest e = ltb (monthAt e) 12 && (leb (getD starts (monthAt e) 0) e && ltb (e
 rangeTests : allBelow 366 rangeTest ≡ true
 rangeTests = refl
 
+range-by : (e : ℕ) → rangeTest e ≡ true → (monthAt e < 12) × (e - getD starts (monthAt e) 0 < 31)
+range-by e t = let p = three-parts t in (ltb-true (monthAt e) 12 (p .0), ltb-true (e - getD starts (monthAt e) 0) 31 (p .2))
+
 pub ranged : (y e : ℕ) → 2000 ≤ y → y ≤ 2099 → e < 366 → Ranged (inLeapYear y e)
 ranged y e a b h =
-    let t = passed rangeTest 366 rangeTests e h in
-    let u = and-parts (ltb (monthAt e) 12) (leb (getD starts (monthAt e) 0) e && ltb (e - getD starts (monthAt e) 0) 31) t in
-    let v = and-parts (leb (getD starts (monthAt e) 0) e) (ltb (e - getD starts (monthAt e) 0) 31) (u .1) in
-    let x = ltb-true (monthAt e) 12 (u .0) in let z = ltb-true (e - getD starts (monthAt e) 0) 31 (v .1) in
+    let p = range-by e (passed rangeTest 366 rangeTests e h) in
     record { year-from = a; year-to = b; month-from = omega arith; month-to = omega arith; day-from = omega arith; day-to = omega arith }

@@ -40,25 +40,25 @@ ends-by k m s t a b e =
       early = λ h. grind (arith, tells);
       next-year = λ h. grind (arith, tells);
       middle = λ h i. grind (arith, tells);
-      late = λ h i. grind (arith, tells)
+      late = λ h i. grind (arith, tells);
     }
 
-abbrev monthTest : ℕ → ℕ → Bool
-monthTest k m = endsTest k m (startOf k m) (startOf k (m + 1)) (startOf k 11) (startOf (k + 1) 11)
+abbrev noticeTest : ℕ → ℕ → Bool
+noticeTest k m = endsTest k m (startOf k m) (startOf k (m + 1)) (startOf k 11) (startOf (k + 1) 11)
 
-monthTests : allBelow 100 (λ k. allBelow 12 (monthTest k)) ≡ true
-monthTests = refl
+noticeTests : allBelow 100 (λ k. allBelow 12 (noticeTest k)) ≡ true
+noticeTests = refl
 
 ends : (k m : ℕ) → k < 100 → m < 12 → Ends k m (startOf k m) (startOf k (m + 1)) (startOf k 11) (startOf (k + 1) 11)
 ends k m hk hm =
     ends-by k m (startOf k m) (startOf k (m + 1)) (startOf k 11) (startOf (k + 1) 11)
-    (passed (monthTest k) 12 (passed (λ j. allBelow 12 (monthTest j)) 100 monthTests k hk) m hm)
+    (passed (noticeTest k) 12 (passed (λ j. allBelow 12 (noticeTest j)) 100 noticeTests k hk) m hm)
 
 -- September has 30 days, so what comes after it is in a later month
 after-september : (x : Date) → Valid (x .year) (x .month) (x .day) → after 9 30 x ≡ ltb 9 (x .month)
 after-september x v =
     elim (cases-eq (x .month) 9) [
-      inl e ↦ let d : x .day ≤ 30 = subst (λ (m : ℕ). x .day ≤ daysIn (x .year) m) e (v .day-to) in grind (arith, tells)
+      | inl e ↦ let d : x .day ≤ 30 = subst (λ (m : ℕ). x .day ≤ daysIn (x .year) m) e (v .day-to) in grind (arith, tells)
       | inr ne ↦ grind (arith, tells)
     ]
 
@@ -66,10 +66,11 @@ after-september x v =
 december : (y : ℕ) → 2000 ≤ y → isOk (numbered y 12 1) ≡ leb y 2099
 december y h =
     elim (cases-lt 2099 y) [
-      inl far ↦ ap isOk (numbered-not y 12 1 (λ v. omega (arith, v .year-to))) ∙ sym (lt-leb y 2099 far)
+      | inl far ↦ ap isOk (numbered-not y 12 1 (λ v. omega (arith, v .year-to))) ∙ sym (lt-leb y 2099 far)
       | inr near ↦
-      ap isOk (numbered-at y 12 1 record { year-from = h; year-to = near; month-from = omega arith; month-to = omega arith; day-from = omega arith; day-to = omega arith })
-      ∙ sym (le-leb y 2099 near)
+          let v : Valid y 12 1 =
+          record { year-from = h; year-to = near; month-from = omega arith; month-to = omega arith; day-from = omega arith; day-to = omega arith } in
+          ap isOk (numbered-at y 12 1 v) ∙ sym (le-leb y 2099 near)
     ]
 
 same-leb : (a b c d : ℕ) → (a ≤ b → c ≤ d) → (b < a → d < c) → leb a b ≡ leb c d
@@ -89,24 +90,26 @@ effective-by x n f =
     let lt : n < startOf k (m + 1) = omega (arith, f .at, month-of y (x .month) (x .day) v .long, v .day-from, v .day-to) in
     let is : effectiveYear x ≡ cond (ltb 9 (x .month)) (y + 1) y = ap (λ b. cond b (y + 1) y) (after-september x v) in
     elim (cases-lt 9 (x .month)) [
-      inl after′ ↦
-      let c : 9 ≤ m = omega arith in
-      let k′ : k + 1 ≡ y + 1 - 2000 = omega (arith, v .year-from) in
-      let s : startOf (k + 1) 11 ≡ startOf (y + 1 - 2000) 11 = ap (λ a. startOf a 11) k′ in
-      subst (λ (a : ℕ). Effective n a) (sym (is ∙ cond-true (ltb 9 (x .month)) (y + 1) y (lt-ltb 9 (x .month) after′)))
-      record {
-        from = omega (arith, v .year-from);
-        until = same-leb (y + 1) 2099 n 36432 (λ h. omega (arith, lt, e .middle c (omega (arith, v .year-from)))) (λ h. omega (arith, f .at, e .late c (omega (arith, v .year-from))));
-        later = omega (arith, s, lt, e .next-year c)
-      }
+      | inl after′ ↦
+          let c : 9 ≤ m = omega arith in
+          let k′ : k + 1 ≡ y + 1 - 2000 = omega (arith, v .year-from) in
+          let s : startOf (k + 1) 11 ≡ startOf (y + 1 - 2000) 11 = ap (λ a. startOf a 11) k′ in
+          subst (λ (a : ℕ). Effective n a) (sym (is ∙ cond-true (ltb 9 (x .month)) (y + 1) y (lt-ltb 9 (x .month) after′)))
+          record {
+            from = omega (arith, v .year-from);
+            until =
+                same-leb (y + 1) 2099 n 36432 (λ h. omega (arith, lt, e .middle c (omega (arith, v .year-from))))
+                (λ h. omega (arith, f .at, e .late c (omega (arith, v .year-from))));
+            later = omega (arith, s, lt, e .next-year c);
+          }
       | inr before′ ↦
-      let c : m < 9 = omega (arith, v .month-from) in
-      subst (λ (a : ℕ). Effective n a) (sym (is ∙ cond-false (ltb 9 (x .month)) (y + 1) y (le-ltb 9 (x .month) before′)))
-      record {
-        from = v .year-from;
-        until = le-leb y 2099 (v .year-to) ∙ sym (le-leb n 36432 (omega (arith, lt, e .early c)));
-        later = omega (arith, lt, e .this-year c)
-      }
+          let c : m < 9 = omega (arith, v .month-from) in
+          subst (λ (a : ℕ). Effective n a) (sym (is ∙ cond-false (ltb 9 (x .month)) (y + 1) y (le-ltb 9 (x .month) before′)))
+          record {
+            from = v .year-from;
+            until = le-leb y 2099 (v .year-to) ∙ sym (le-leb n 36432 (omega (arith, lt, e .early c)));
+            later = omega (arith, lt, e .this-year c);
+          }
     ]
 
 effective-is : (n : ℕ) → n < 36525 → Effective n (effectiveYear (dateOf n))
@@ -117,9 +120,9 @@ pub effective-until : (n : ℕ) → isOk (effective n) ≡ leb n 36432
 effective-until n =
     let y = effectiveYear (dateOf n) in
     elim (cases-lt n 36525) [
-      inl h ↦
-      let e = effective-is n h in
-      ap isOk (cond-true (ltb n 36525) (numbered y 12 1) (Err NotInCalendar) (lt-ltb n 36525 h)) ∙ december y (e .from) ∙ e .until
+      | inl h ↦
+          let e = effective-is n h in
+          ap isOk (cond-true (ltb n 36525) (numbered y 12 1) (Err NotInCalendar) (lt-ltb n 36525 h)) ∙ december y (e .from) ∙ e .until
       | inr far ↦ ap isOk (cond-false (ltb n 36525) (numbered y 12 1) (Err NotInCalendar) (le-ltb n 36525 far)) ∙ sym (lt-leb n 36432 (omega arith))
     ]
 
@@ -134,8 +137,8 @@ effective-later n (Err f) e = tt
 effective-later n (Ok d) e =
     let y = effectiveYear (dateOf n) in
     elim (cases-lt n 36525) [
-      inl h ↦ later-by n d h (e ∙ cond-true (ltb n 36525) (numbered y 12 1) (Err NotInCalendar) (lt-ltb n 36525 h))
+      | inl h ↦ later-by n d h (e ∙ cond-true (ltb n 36525) (numbered y 12 1) (Err NotInCalendar) (lt-ltb n 36525 h))
       | inr far ↦
-      let q = e ∙ cond-false (ltb n 36525) (numbered y 12 1) (Err NotInCalendar) (le-ltb n 36525 far) in
-      let z : _≡_ {A = ℕ} 0 1 = cc in absurd (omega arith)
+          let q = e ∙ cond-false (ltb n 36525) (numbered y 12 1) (Err NotInCalendar) (le-ltb n 36525 far) in
+          let z : _≡_ {A = ℕ} 0 1 = cc in absurd (omega arith)
     ]

@@ -1,4 +1,4 @@
--- Day numbers and dates tell the same: the proof of the calendar's theorem.
+-- Day numbers and dates correspond one to one: the proof of the calendar's theorem.
 use mathlib.Core.Path.{_≡_, refl, sym, ap, subst, _∙_}
 use mathlib.Core.Bool.{Bool, true, _&&_}
 use Prim.Native.Nat.{ℕ, _+_, _-_, _*_, _/_, _%_, _<_}
@@ -32,10 +32,13 @@ dateTest k m i = ltb (startOf k m + i) 1461 && same (inCycle (startOf k m + i)) 
 dateTests : allBelow 4 (λ k. allBelow 12 (λ m. allBelow (lengthOf k m) (dateTest k m))) ≡ true
 dateTests = refl
 
-cycle-date : (k c m i : ℕ) → k < 4 → m < 12 → i < lengthOf k m → reckonedDate (1461 * c + (startOf k m + i)) ≡ record { year = 2000 + k + 4 * c; month = m + 1; day = i + 1 }
+cycle-date : (k c m i : ℕ) → k < 4 → m < 12 → i < lengthOf k m
+    → reckonedDate (1461 * c + (startOf k m + i)) ≡ record { year = 2000 + k + 4 * c; month = m + 1; day = i + 1 }
 cycle-date k c m i hk hm hi =
     let r = startOf k m + i in
-    let t = passed (dateTest k m) (lengthOf k m) (passed (λ j. allBelow (lengthOf k j) (dateTest k j)) 12 (passed (λ a. allBelow 12 (λ j. allBelow (lengthOf a j) (dateTest a j))) 4 dateTests k hk) m hm) i hi in
+    let of-year = passed (λ a. allBelow 12 (λ j. allBelow (lengthOf a j) (dateTest a j))) 4 dateTests k hk in
+    let of-month = passed (λ j. allBelow (lengthOf k j) (dateTest k j)) 12 of-year m hm in
+    let t = passed (dateTest k m) (lengthOf k m) of-month i hi in
     let p = and-parts (ltb r 1461) (same (inCycle r) record { year = 2000 + k; month = m + 1; day = i + 1 }) t in
     reckoned-at (1461 * c + r) c r (ltb-true r 1461 (p .0)) refl
     ∙ ap (moved c) (same-is (inCycle r) record { year = 2000 + k; month = m + 1; day = i + 1 } (p .1))
@@ -61,8 +64,7 @@ pub date-is : (y m d : ℕ) → Valid y m d → dated (dayOf y m d) ≡ Ok recor
 date-is y m d v = date-by y m d ((y - 2000) % 4) ((y - 2000) / 4) (omega (arith, v .year-from)) (omega arith) v (month-of y m d v)
 
 pub nothing-lost : Nothing-lost
-nothing-lost =
-    (
-      λ n h. let P : Date → Type 0 = λ x. numbered (x .year) (x .month) (x .day) ≡ Ok n in subst P (sym (reckoned-is n h)) (back-is n h),
-      λ y m d t. date-is y m d (valid-parts y m d t)
-    )
+nothing-lost = (
+  λ n h. let P : Date → Type 0 = λ x. numbered (x .year) (x .month) (x .day) ≡ Ok n in subst P (sym (reckoned-is n h)) (back-is n h),
+  λ y m d t. date-is y m d (valid-parts y m d t),
+)

@@ -1,3 +1,4 @@
+-- What the calendar is, how the code reckons it, and what its refusals say.
 pub mod Calendar
-pub mod Faults
 pub mod Reckon
+pub mod Faults

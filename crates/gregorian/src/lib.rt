@@ -1,8 +1,7 @@
-//! The calendar's types, and the theorem that day numbers and dates tell the same.
+//! The calendar's types, and the theorem that day numbers and dates correspond one to one.
 ghost use Rattle.gregorian.specs.Calendar.{Examples, Nothing-lost};
 ghost use Rattle.gregorian.specs.Faults.{refusalOf};
 ghost use mathlib.Core.Path.{_≡_};
-
 use refusal::Layer;
 use refusal::Refusal;
 
@@ -17,7 +16,12 @@ impl CalendarFault {
         ensures { λ r. ⌜ r ≡ refusalOf self ⌝ }
     {
         match self {
-            CalendarFault::NotInCalendar => Refusal { number: 2, layer: Layer::Book, first: 0, second: 0 },
+            CalendarFault::NotInCalendar => Refusal {
+                number: 2,
+                layer: Layer::Book,
+                first: 0,
+                second: 0,
+            },
         }
     }
 }
@@ -26,5 +30,4 @@ impl CalendarFault {
 pub fn nothing_is_lost()
     ensures lossless { λ _. ⌜ Nothing-lost ⌝ }
     ensures examples { λ _. ⌜ Examples ⌝ }
-{
-}
+{}

@@ -1,3 +1,4 @@
+-- The proof of `date_of`: the reckoned date is the one by tomorrows.
 use mathlib.Core.Path.{_≡_, sym, ap, subst, _∙_}
 use native.Mathlib.Omega.{arith}
 use Rattle.std.specs.declared.result.Result.the-variants.{Ok}
@@ -12,5 +13,5 @@ returns c =
     record {
       value = ap Ok e ∙ sym (dated-is n (omega arith));
       small = c .reckoned .ensures .small;
-      back = subst (λ (x : Date). numbered (x .year) (x .month) (x .day) ≡ Ok n) (sym e) (back-is n (omega arith))
+      back = subst (λ (x : Date). numbered (x .year) (x .month) (x .day) ≡ Ok n) (sym e) (back-is n (omega arith));
     }

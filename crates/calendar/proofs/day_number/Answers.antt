@@ -1,3 +1,4 @@
+-- The proof of `day_number`: a day past its month is refused, any other has its number.
 use mathlib.Core.Path.{ap}
 use native.Mathlib.Omega.{arith}
 use Prim.Native.Nat.{_-_, _+_}
@@ -9,7 +10,7 @@ returns-then-number-start-of c =
     record {
       value = number-refused (c .args .year) (c .args .month) (c .args .day) (omega arith) (omega arith) (omega arith) (omega arith) (omega arith) (omega arith);
       back = tt;
-      inside = tt
+      inside = tt;
     }
 
 pub returns : need.returns

@@ -1,3 +1,4 @@
+-- The proof of `effective_day`: the value, up to which day there is one, and that it comes later.
 use borrow.Author.Needs.{needs}
 use mathlib.Core.Path.{_≡_, ap, _∙_}
 use Rattle.std.specs.Results.{isOk}

@@ -1,3 +1,4 @@
+-- The proof of `in_leap_year`: the month by the table.
 use mathlib.Core.Path.{_≡_, sym, ap, subst}
 use Prim.Native.Nat.{ℕ, _+_, _-_}
 use native.Mathlib.Omega.{arith}

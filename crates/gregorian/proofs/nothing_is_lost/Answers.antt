@@ -1,3 +1,4 @@
+-- The proof of the theorem, and of the examples, which are computed.
 use mathlib.Core.Path.{refl}
 use Rattle.gregorian.proofs.RoundTrip.{nothing-lost}
 use Rattle.gregorian.proofs.nothing_is_lost.Needs as need
@@ -6,5 +7,5 @@ pub returns : need.returns
 returns c =
     record {
       lossless = nothing-lost;
-      examples = (refl, refl, refl, refl, refl, refl, refl, refl, refl, refl, refl, refl, refl, refl, refl, refl, refl, refl, refl, refl, refl)
+      examples = (refl, refl, refl, refl, refl, refl, refl, refl, refl, refl, refl, refl, refl, refl, refl, refl, refl, refl, refl, refl, refl);
     }
