@@ -7,8 +7,6 @@ ghost use mathlib.Core.Path.{_≡_};
 pub mod kinds;
 
 pub use kinds::Line;
-
-use refusal::Refusal;
 use std::alloc::AllocError;
 use std::alloc::Global;
 use std::fmt;
@@ -33,8 +31,12 @@ pub impl fmt::Display for Line as LineDisplay {
 
     fn fmt<W: fmt::Write>(&self, f: &mut fmt::Formatter<W>) -> fmt::Result {
         match self {
-            Line::Refused { order, refusal: Refusal { number, first, second, .. } } => {
-                write!(f, "? {order} {number} {first} {second}\n")
+            Line::Refused { order, refusal } => {
+                writeln!(
+                    f,
+                    "? {order} {} {} {}",
+                    refusal.number, refusal.first, refusal.second
+                )
             }
         }
     }

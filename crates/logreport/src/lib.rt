@@ -1,1 +1,4 @@
-//! Report.
+//! What a packed weather log says, in words.
+
+pub mod kinds;
+mod words;

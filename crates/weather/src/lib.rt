@@ -1,5 +1,5 @@
 //! Weather sources: what every source of temperatures means, and the refusals of this layer.
-ghost use Prim.Native.Nat.{ℕ, _<_};
+ghost use Prim.Native.Nat.{ℕ};
 ghost use Rattle.std.specs.declared.option.Option.{Option};
 ghost use Rattle.weather.specs.Refusals.{refusalOf};
 ghost use Rattle.weather.specs.Temperatures.{AllRanged, Ranged};
