@@ -26,6 +26,9 @@ signText (negsuc n) = codes "-"
 abbrev pub degreesText : ℤ → List ℕ
 degreesText t = signText t ++ (decimal (natAbs t / 10) ++ (codes "." ++ (decimal (natAbs t % 10) ++ unit)))
 
+abbrev pub newline : List ℕ
+newline = codes "\n"
+
 -- the name of a month; January is month 1
 abbrev pub monthName : ℕ → List ℕ
 monthName m =
@@ -54,3 +57,7 @@ withoutYear n (Err f) = codes "day " ++ decimal n
 abbrev pub dayText : Day → List ℕ
 dayText (Dated n) = withYear n (dated n)
 dayText (Yearly n) = withoutYear n (dated n)
+
+-- a number of days
+abbrev pub daysText : ℕ → List ℕ
+daysText n = cond (eqb n 1) (codes "1 day") (decimal n ++ codes " days")

@@ -4,7 +4,7 @@ use logsummary::Gap;
 use logsummary::Summary;
 use weather::WeatherFault;
 
-/// A temperature in tenths of a degree Fahrenheit, shown with its sign.
+/// A temperature in tenths of a degree Fahrenheit, shown in degrees with its sign.
 #[derive(Clone, Copy)]
 pub struct Degrees(pub i16);
 
@@ -16,3 +16,50 @@ pub enum Day {
     /// A day of every year, by its number from 0 in a leap year.
     Yearly(u64),
 }
+
+/// A number of days.
+#[derive(Clone, Copy)]
+pub struct Days(pub u64);
+
+/// A series of a zone, and the days that its places stand for.
+#[derive(Clone, Copy)]
+pub enum Timeline {
+    /// The means of the days from the first on.
+    Means { first: u32 },
+    /// The normals of the days of a year.
+    Normals,
+}
+
+/// The coldest and the warmest place of a series, where something is known.
+#[derive(Clone, Copy)]
+pub struct Extremes {
+    pub timeline: Timeline,
+    pub ends: Option<(Extreme, Extreme)>,
+}
+
+/// The longest gap of a series.
+#[derive(Clone, Copy)]
+pub struct LongestGap {
+    pub timeline: Timeline,
+    pub gap: Gap,
+}
+
+/// A series of a zone.
+#[derive(Clone, Copy)]
+pub struct SeriesReport {
+    pub timeline: Timeline,
+    pub summary: Summary,
+}
+
+/// A zone of a log, by its number from 0.
+#[derive(Clone, Copy)]
+pub struct ZoneReport {
+    pub number: usize,
+    pub first: u32,
+    pub means: Summary,
+    pub normals: Summary,
+}
+
+/// Why a log is refused.
+#[derive(Clone, Copy)]
+pub struct Reason(pub WeatherFault);

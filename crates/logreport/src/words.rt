@@ -1,8 +1,9 @@
 //! How temperatures and days are shown.
-ghost use Rattle.logreport.specs.Words.{dayText, degreesText, monthName, signText};
+ghost use Rattle.logreport.specs.Words.{dayText, daysText, degreesText, monthName, signText};
 ghost use Rattle.std.specs.declared.option.Option.the-variants.{Some};
 ghost use mathlib.Core.Path.{_≡_};
 use crate::kinds::Day;
+use crate::kinds::Days;
 use crate::kinds::Degrees;
 use calendar::date_of;
 use std::fmt;
@@ -56,6 +57,17 @@ pub impl fmt::Display for Day as DayDisplay {
                 Ok(date) => write!(f, "{} {}", date.day, month_name(date.month)),
                 Err(_) => write!(f, "day {day}"),
             },
+        }
+    }
+}
+
+pub impl fmt::Display for Days as DaysDisplay {
+    ghost shown = { λ x. Some (daysText (x .0)) };
+
+    fn fmt<W: fmt::Write>(&self, f: &mut fmt::Formatter<W>) -> fmt::Result {
+        match self.0 {
+            1 => write!(f, "1 day"),
+            count => write!(f, "{count} days"),
         }
     }
 }

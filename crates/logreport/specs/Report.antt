@@ -1,0 +1,98 @@
+-- The report of a log: its lines, whatever the log's bytes.
+use mathlib.Core.List.{List, [], _∷_, _++_}
+use mathlib.Core.Bool.{cond}
+use Prim.Native.Nat.{ℕ, _+_, _-_}
+use lib.Chars.{codes}
+use lib.Dec.{eqb}
+use lib.ListN.{length}
+use Rattle.std.specs.Options.{zipped}
+use Rattle.std.specs.Written.{decimal}
+use Rattle.std.specs.declared.option.Option.{Option}
+use Rattle.std.specs.declared.option.Option.the-variants.{Some, None}
+use Rattle.std.specs.declared.result.Result.{Result}
+use Rattle.std.specs.declared.result.Result.the-variants.{Ok, Err}
+use Rattle.refusal.specs.Refusals.{layerName}
+use Rattle.weather.specs.Refusals.{refusalOf}
+use Rattle.weather.specs.declared.kinds.WeatherFault.{WeatherFault}
+use Rattle.weather.specs.declared.kinds.WeatherFault.the-variants.{LogTooLong, BadNumber, OutOfFormat}
+use Rattle.logformat.specs.Reading.{logOf}
+use Rattle.logformat.specs.Zones.{Zone}
+use Rattle.logsummary.specs.Summaries.{summaryOf}
+use Rattle.logsummary.specs.declared.kinds.Extreme.{Extreme}
+use Rattle.logsummary.specs.declared.kinds.Gap.{Gap}
+use Rattle.logsummary.specs.declared.kinds.Summary.{Summary}
+use Rattle.logreport.specs.declared.kinds.Day.{Day}
+use Rattle.logreport.specs.declared.kinds.Day.the-variants.{Dated, Yearly}
+use Rattle.logreport.specs.declared.kinds.Timeline.{Timeline}
+use Rattle.logreport.specs.declared.kinds.Timeline.the-variants.{Means, Normals}
+use Rattle.logreport.specs.declared.kinds.ZoneReport.{ZoneReport}
+use Rattle.logreport.specs.Words.{dayText, daysText, degreesText, newline, unit}
+
+-- the name of a series, and the day that each of its places stands for
+abbrev pub seriesName : Timeline → List ℕ
+seriesName (Means first) = codes "means"
+seriesName Normals = codes "normals"
+
+abbrev pub dayAt : Timeline → ℕ → Day
+dayAt (Means first) place = Dated (first + place)
+dayAt Normals place = Yearly place
+
+-- the lines of the coldest and the warmest place
+abbrev pub extremesText : Timeline → Option (Extreme × Extreme) → List ℕ
+extremesText l None = codes "    nothing known\n"
+extremesText l (Some (coldest, warmest)) =
+    codes "    coldest " ++ (degreesText (coldest .tenths) ++ (codes " on " ++ (dayText (dayAt l (coldest .at)) ++ (codes "\n    warmest " ++ (degreesText (warmest .tenths) ++ (codes " on " ++ (dayText (dayAt l (warmest .at)) ++ newline)))))))
+
+-- the line of the longest gap
+abbrev pub gapText : Timeline → Gap → List ℕ
+gapText l gap =
+    cond (eqb (gap .length) 0) (codes "    longest gap: none\n")
+    (codes "    longest gap: " ++ (daysText (gap .length) ++ (codes " from " ++ (dayText (dayAt l (gap .at)) ++ newline))))
+
+-- the lines of a series
+unfoldable pub seriesText : Timeline → Summary → List ℕ
+seriesText l s =
+    codes "  " ++ (seriesName l ++ (codes ": " ++ (decimal (s .known) ++ (codes " known, " ++ (decimal (s .unknown) ++ (codes " unknown, " ++ (decimal (s .subzero) ++ ((codes " below 0" ++ (unit ++ newline)) ++ (extremesText l (zipped (s .coldest) (s .warmest)) ++ gapText l (s .longest))))))))))
+
+-- the lines of a zone: its number, its days, and its series
+abbrev pub zoneText : ℕ → ℕ → ℕ → List ℕ → List ℕ
+zoneText number first days series =
+    codes "zone " ++ (decimal number ++
+    cond (eqb days 0) (codes ": no days\n" ++ series)
+    (codes ": " ++ (daysText days ++ (codes ", " ++ (dayText (Dated first) ++ (codes " to " ++ (dayText (Dated (first + days - 1)) ++ (newline ++ series))))))))
+
+unfoldable pub reportedText : ZoneReport → List ℕ
+reportedText x = zoneText (x .number) (x .first) (x .means .known + x .means .unknown) (seriesText (Means (x .first)) (x .means) ++ seriesText Normals (x .normals))
+
+unfoldable pub zoneLines : ℕ → Zone → List ℕ
+zoneLines number z =
+    zoneText number (z .first) (length (z .means)) (seriesText (Means (z .first)) (summaryOf (z .means)) ++ seriesText Normals (summaryOf (z .normals)))
+
+-- the lines of zones, numbered from a number on
+unfoldable pub zonesLines : ℕ → List Zone → List ℕ
+zonesLines number [] = []
+zonesLines number (z ∷ zs) = zoneLines number z ++ zonesLines (number + 1) zs
+
+-- why a log is refused
+abbrev pub reasonText : WeatherFault → List ℕ
+reasonText LogTooLong = codes "more than 60,000 bytes"
+reasonText (BadNumber place) = codes "at byte " ++ (decimal place ++ codes " no whole, shortest number below 2^63 starts")
+reasonText (OutOfFormat place) = codes "at byte " ++ (decimal place ++ codes " a number or surplus does not keep to the format")
+
+-- the line of a log that is refused
+abbrev pub refusedLine : WeatherFault → List ℕ
+refusedLine fault =
+    codes "weather.log is refused (" ++ (decimal (refusalOf fault .number) ++ (codes ", " ++ (layerName (refusalOf fault .layer) ++ (codes "): " ++ (reasonText fault ++ newline)))))
+
+-- the first line of a log that lists zones
+abbrev pub headLine : ℕ → ℕ → List ℕ
+headLine size zones = codes "weather.log: " ++ (decimal size ++ (codes " bytes, zones listed: " ++ (decimal zones ++ newline)))
+
+-- the report of a log of a size, from what is read in it; only an empty log lists no zones
+abbrev pub reported : ℕ → Result (List Zone) WeatherFault → List ℕ
+reported size (Err fault) = refusedLine fault
+reported size (Ok []) = codes "weather.log: empty, nothing is known\n"
+reported size (Ok (z ∷ zs)) = headLine size (length (z ∷ zs)) ++ zonesLines 0 (z ∷ zs)
+
+abbrev pub reportOf : List ℕ → List ℕ
+reportOf bytes = reported (length bytes) (logOf bytes)
