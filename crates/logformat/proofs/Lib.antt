@@ -1,3 +1,6 @@
 pub mod Steps
 mod Forward
-pub mod Backward
+mod Backward
+mod Following
+mod Stopped
+pub mod Opening

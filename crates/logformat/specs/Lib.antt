@@ -1,4 +1,5 @@
 pub mod Zones
 pub mod Writing
 pub mod Reading
+pub mod Faults
 pub mod Accepted
