@@ -73,16 +73,19 @@ unfoldable pub zonesLines : ℕ → List Zone → List ℕ
 zonesLines number [] = []
 zonesLines number (z ∷ zs) = zoneLines number z ++ zonesLines (number + 1) zs
 
--- why a log is refused
+-- the line of a log that is refused: its refusal, and why
 abbrev pub reasonText : WeatherFault → List ℕ
-reasonText LogTooLong = codes "more than 60,000 bytes"
-reasonText (BadNumber place) = codes "at byte " ++ (decimal place ++ codes " no whole, shortest number below 2^63 starts")
-reasonText (OutOfFormat place) = codes "at byte " ++ (decimal place ++ codes " a number or surplus does not keep to the format")
+reasonText LogTooLong = codes "more than 60,000 bytes\n"
+reasonText (BadNumber place) = codes "at byte " ++ (decimal place ++ codes " no whole, shortest number below 2^63 starts\n")
+reasonText (OutOfFormat place) = codes "at byte " ++ (decimal place ++ codes " a number or surplus does not keep to the format\n")
 
--- the line of a log that is refused
 abbrev pub refusedLine : WeatherFault → List ℕ
 refusedLine fault =
-    codes "weather.log is refused (" ++ (decimal (refusalOf fault .number) ++ (codes ", " ++ (layerName (refusalOf fault .layer) ++ (codes "): " ++ (reasonText fault ++ newline)))))
+    codes "weather.log is refused (" ++ (decimal (refusalOf fault .number) ++ (codes ", " ++ (layerName (refusalOf fault .layer) ++ (codes "): " ++ reasonText fault))))
+
+-- the line of an empty log
+abbrev pub emptyLine : List ℕ
+emptyLine = codes "weather.log: empty, nothing is known\n"
 
 -- the first line of a log that lists zones
 abbrev pub headLine : ℕ → ℕ → List ℕ
@@ -91,7 +94,7 @@ headLine size zones = codes "weather.log: " ++ (decimal size ++ (codes " bytes, 
 -- the report of a log of a size, from what is read in it; only an empty log lists no zones
 abbrev pub reported : ℕ → Result (List Zone) WeatherFault → List ℕ
 reported size (Err fault) = refusedLine fault
-reported size (Ok []) = codes "weather.log: empty, nothing is known\n"
+reported size (Ok []) = emptyLine
 reported size (Ok (z ∷ zs)) = headLine size (length (z ∷ zs)) ++ zonesLines 0 (z ∷ zs)
 
 abbrev pub reportOf : List ℕ → List ℕ

@@ -2,7 +2,6 @@
 use logsummary::Extreme;
 use logsummary::Gap;
 use logsummary::Summary;
-use weather::WeatherFault;
 
 /// A temperature in tenths of a degree Fahrenheit, shown in degrees with its sign.
 #[derive(Clone, Copy)]
@@ -59,7 +58,3 @@ pub struct ZoneReport {
     pub means: Summary,
     pub normals: Summary,
 }
-
-/// Why a log is refused.
-#[derive(Clone, Copy)]
-pub struct Reason(pub WeatherFault);

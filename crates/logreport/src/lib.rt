@@ -1,9 +1,8 @@
 //! What a packed weather log says, in words.
 ghost use Rattle.logformat.specs.Reading.{zonesBy};
-ghost use Rattle.logreport.specs.Report.{reasonText, refusedLine, reportOf, reported, reportedText};
+ghost use Rattle.logreport.specs.Report.{refusedLine, reportOf, reported, reportedText};
 ghost use Rattle.std.specs.Of.String.{string-bytes};
 ghost use Rattle.std.specs.Vec.{made};
-ghost use Rattle.std.specs.declared.option.Option.the-variants.{Some};
 ghost use Rattle.std.specs.declared.result.Result.the-variants.{Ok};
 ghost use denote.Ref.{now as held};
 ghost use lib.ListN.{length};
@@ -15,11 +14,9 @@ mod series;
 mod words;
 mod zones;
 
-use kinds::Reason;
 use kinds::ZoneReport;
 use std::alloc::AllocError;
 use std::alloc::Global;
-use std::fmt;
 use weather::WeatherFault;
 use weatherlog::Log;
 use zones::ZoneReportDisplay;
@@ -70,34 +67,20 @@ fn refused(heap: Global, fault: WeatherFault) -> Result<String, AllocError>
     ensures { λ r. ⌜ made r (λ s. string-bytes s ≡ refusedLine fault) ⌝ }
 {
     let refusal = fault.refusal();
-    format!(
-        heap,
-        "weather.log is refused ({}, {}): {}\n",
-        refusal.number,
-        refusal.layer.name(),
-        Reason(fault)
-    )
-}
-
-pub impl fmt::Display for Reason as ReasonDisplay {
-    ghost shown = { λ x. Some (reasonText (x .0)) };
-
-    fn fmt<W: fmt::Write>(&self, f: &mut fmt::Formatter<W>) -> fmt::Result {
-        let Reason(fault) = self;
-        match fault {
-            WeatherFault::LogTooLong => write!(f, "more than 60,000 bytes"),
-            WeatherFault::BadNumber { place } => {
-                write!(
-                    f,
-                    "at byte {place} no whole, shortest number below 2^63 starts"
-                )
-            }
-            WeatherFault::OutOfFormat { place } => {
-                write!(
-                    f,
-                    "at byte {place} a number or surplus does not keep to the format"
-                )
-            }
-        }
+    let number = refusal.number;
+    let layer = refusal.layer.name();
+    match fault {
+        WeatherFault::LogTooLong => format!(
+            heap,
+            "weather.log is refused ({number}, {layer}): more than 60,000 bytes\n"
+        ),
+        WeatherFault::BadNumber { place } => format!(
+            heap,
+            "weather.log is refused ({number}, {layer}): at byte {place} no whole, shortest number below 2^63 starts\n"
+        ),
+        WeatherFault::OutOfFormat { place } => format!(
+            heap,
+            "weather.log is refused ({number}, {layer}): at byte {place} a number or surplus does not keep to the format\n"
+        ),
     }
 }

@@ -1,0 +1,4 @@
+use Rattle.logreport.proofs.series.ExtremesDisplay.fmt.Needs as need
+
+pub returns-in-None : need.returns-in-None
+returns-in-None g c = rw (c .in-None .is) (c .write .ensures .shows)
