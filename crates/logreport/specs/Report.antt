@@ -38,40 +38,38 @@ dayAt (Means first) place = Dated (first + place)
 dayAt Normals place = Yearly place
 
 -- the lines of the coldest and the warmest place
-abbrev pub extremesText : Timeline → Option (Extreme × Extreme) → List ℕ
-extremesText l None = codes "    nothing known\n"
-extremesText l (Some (coldest, warmest)) =
+abbrev pub extremeLines : Timeline → Option (Extreme × Extreme) → List ℕ
+extremeLines l None = codes "    nothing known\n"
+extremeLines l (Some (coldest, warmest)) =
     codes "    coldest " ++ (degreesText (coldest .tenths) ++ (codes " on " ++ (dayText (dayAt l (coldest .at)) ++ (codes "\n    warmest " ++ (degreesText (warmest .tenths) ++ (codes " on " ++ (dayText (dayAt l (warmest .at)) ++ newline)))))))
 
 -- the line of the longest gap
-abbrev pub gapText : Timeline → Gap → List ℕ
-gapText l gap =
+abbrev pub gapLine : Timeline → Gap → List ℕ
+gapLine l gap =
     cond (eqb (gap .length) 0) (codes "    longest gap: none\n")
     (codes "    longest gap: " ++ (daysText (gap .length) ++ (codes " from " ++ (dayText (dayAt l (gap .at)) ++ newline))))
 
 -- the lines of a series
-unfoldable pub seriesText : Timeline → Summary → List ℕ
-seriesText l s =
-    codes "  " ++ (seriesName l ++ (codes ": " ++ (decimal (s .known) ++ (codes " known, " ++ (decimal (s .unknown) ++ (codes " unknown, " ++ (decimal (s .subzero) ++ ((codes " below 0" ++ (unit ++ newline)) ++ (extremesText l (zipped (s .coldest) (s .warmest)) ++ gapText l (s .longest))))))))))
+unfoldable pub seriesLines : Timeline → Summary → List ℕ
+seriesLines l s =
+    codes "  " ++ (seriesName l ++ (codes ": " ++ (decimal (s .known) ++ (codes " known, " ++ (decimal (s .unknown) ++ (codes " unknown, " ++ (decimal (s .subzero) ++ ((codes " below 0" ++ (unit ++ newline)) ++ (extremeLines l (zipped (s .coldest) (s .warmest)) ++ gapLine l (s .longest))))))))))
 
--- the lines of a zone: its number, its days, and its series
-abbrev pub zoneText : ℕ → ℕ → ℕ → List ℕ → List ℕ
-zoneText number first days series =
-    codes "zone " ++ (decimal number ++
-    cond (eqb days 0) (codes ": no days\n" ++ series)
-    (codes ": " ++ (daysText days ++ (codes ", " ++ (dayText (Dated first) ++ (codes " to " ++ (dayText (Dated (first + days - 1)) ++ (newline ++ series))))))))
+-- what is reported of a zone, and its lines
+abbrev pub zoneOf : ℕ → Zone → ZoneReport
+zoneOf number z =
+    record { number = number; first = z .first; days = length (z .means); means = summaryOf (z .means); normals = summaryOf (z .normals) }
 
-unfoldable pub reportedText : ZoneReport → List ℕ
-reportedText x = zoneText (x .number) (x .first) (x .means .known + x .means .unknown) (seriesText (Means (x .first)) (x .means) ++ seriesText Normals (x .normals))
-
-unfoldable pub zoneLines : ℕ → Zone → List ℕ
-zoneLines number z =
-    zoneText number (z .first) (length (z .means)) (seriesText (Means (z .first)) (summaryOf (z .means)) ++ seriesText Normals (summaryOf (z .normals)))
+unfoldable pub zoneLines : ZoneReport → List ℕ
+zoneLines x =
+    let series = seriesLines (Means (x .first)) (x .means) ++ seriesLines Normals (x .normals) in
+    codes "zone " ++ (decimal (x .number) ++
+    cond (eqb (x .days) 0) (codes ": no days\n" ++ series)
+    (codes ": " ++ (daysText (x .days) ++ (codes ", " ++ (dayText (Dated (x .first)) ++ (codes " to " ++ (dayText (Dated (x .first + x .days - 1)) ++ (newline ++ series))))))))
 
 -- the lines of zones, numbered from a number on
 unfoldable pub zonesLines : ℕ → List Zone → List ℕ
 zonesLines number [] = []
-zonesLines number (z ∷ zs) = zoneLines number z ++ zonesLines (number + 1) zs
+zonesLines number (z ∷ zs) = zoneLines (zoneOf number z) ++ zonesLines (number + 1) zs
 
 -- the line of a log that is refused: its refusal, and why
 abbrev pub reasonText : WeatherFault → List ℕ

@@ -18,7 +18,7 @@ pub enum Day {
 
 /// A number of days.
 #[derive(Clone, Copy)]
-pub struct Days(pub u64);
+pub struct Days(pub u32);
 
 /// A series of a zone, and the days that its places stand for.
 #[derive(Clone, Copy)]
@@ -29,7 +29,7 @@ pub enum Timeline {
     Normals,
 }
 
-/// The coldest and the warmest place of a series, where something is known.
+/// The coldest and the warmest of a series, where something is known.
 #[derive(Clone, Copy)]
 pub struct Extremes {
     pub timeline: Timeline,
@@ -50,11 +50,12 @@ pub struct SeriesReport {
     pub summary: Summary,
 }
 
-/// A zone of a log, by its number from 0.
+/// A zone of a log: its number from 0, its first day, its days, and its series.
 #[derive(Clone, Copy)]
 pub struct ZoneReport {
     pub number: usize,
     pub first: u32,
+    pub days: u32,
     pub means: Summary,
     pub normals: Summary,
 }

@@ -1,6 +1,6 @@
 //! What a packed weather log says, in words.
 ghost use Rattle.logformat.specs.Reading.{zonesBy};
-ghost use Rattle.logreport.specs.Report.{refusedLine, reportOf, reported, reportedText};
+ghost use Rattle.logreport.specs.Report.{refusedLine, reportOf, reported, zoneLines};
 ghost use Rattle.std.specs.Of.String.{string-bytes};
 ghost use Rattle.std.specs.Vec.{made};
 ghost use Rattle.std.specs.declared.result.Result.the-variants.{Ok};
@@ -54,7 +54,7 @@ fn accepted(heap: Global, log: &Log<'_>) -> Result<String, AllocError>
 
 /// Appends the lines of a zone.
 fn push_zone(out: &mut String, zone: &ZoneReport) -> Result<(), AllocError>
-    ensures { λ r. ⌜ made r (λ _. string-bytes (now (out .exit)) ≡ string-bytes (now (out .entry)) ++ reportedText (now (zone .entry))) ⌝ }
+    ensures { λ r. ⌜ made r (λ _. string-bytes (now (out .exit)) ≡ string-bytes (now (out .entry)) ++ zoneLines (now (zone .entry))) ⌝ }
 {
     match write!(out, "{zone}") {
         Ok(()) => Ok(()),

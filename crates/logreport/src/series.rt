@@ -1,5 +1,5 @@
 //! How a series of a zone is shown.
-ghost use Rattle.logreport.specs.Report.{dayAt, extremesText, gapText, seriesName, seriesText};
+ghost use Rattle.logreport.specs.Report.{dayAt, extremeLines, gapLine, seriesName, seriesLines};
 ghost use Rattle.std.specs.declared.option.Option.the-variants.{Some};
 ghost use mathlib.Core.Path.{_≡_};
 use crate::kinds::Day;
@@ -37,7 +37,7 @@ impl Timeline {
 }
 
 pub impl fmt::Display for Extremes as ExtremesDisplay {
-    ghost shown = { λ x. Some (extremesText (x .timeline) (x .ends)) };
+    ghost shown = { λ x. Some (extremeLines (x .timeline) (x .ends)) };
 
     fn fmt<W: fmt::Write>(&self, f: &mut fmt::Formatter<W>) -> fmt::Result {
         let Extremes { timeline, ends } = self;
@@ -56,20 +56,20 @@ pub impl fmt::Display for Extremes as ExtremesDisplay {
 }
 
 pub impl fmt::Display for LongestGap as LongestGapDisplay {
-    ghost shown = { λ x. Some (gapText (x .timeline) (x .gap)) };
+    ghost shown = { λ x. Some (gapLine (x .timeline) (x .gap)) };
 
     fn fmt<W: fmt::Write>(&self, f: &mut fmt::Formatter<W>) -> fmt::Result {
         if self.gap.length == 0 {
             return write!(f, "    longest gap: none\n");
         }
-        let days = Days(self.gap.length as u64);
+        let days = Days(self.gap.length);
         let start = self.timeline.day_at(self.gap.at);
         write!(f, "    longest gap: {days} from {start}\n")
     }
 }
 
 pub impl fmt::Display for SeriesReport as SeriesReportDisplay {
-    ghost shown = { λ x. Some (seriesText (x .timeline) (x .summary)) };
+    ghost shown = { λ x. Some (seriesLines (x .timeline) (x .summary)) };
 
     fn fmt<W: fmt::Write>(&self, f: &mut fmt::Formatter<W>) -> fmt::Result {
         let timeline = self.timeline;

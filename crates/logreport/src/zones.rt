@@ -1,6 +1,6 @@
 //! How a zone of a log is shown.
 ghost use Rattle.logformat.specs.Reading.{zoneBy};
-ghost use Rattle.logreport.specs.Report.{reportedText, zoneLines};
+ghost use Rattle.logreport.specs.Report.{zoneLines, zoneOf};
 ghost use Rattle.std.specs.declared.option.Option.the-variants.{Some};
 ghost use mathlib.Core.Path.{_≡_};
 use crate::kinds::Day;
@@ -20,7 +20,7 @@ use std::fmt;
 const NORMALS: u32 = 366;
 
 pub impl fmt::Display for ZoneReport as ZoneReportDisplay {
-    ghost shown = { λ x. Some (reportedText x) };
+    ghost shown = { λ x. Some (zoneLines x) };
 
     fn fmt<W: fmt::Write>(&self, f: &mut fmt::Formatter<W>) -> fmt::Result {
         let means = SeriesReport {
@@ -31,29 +31,31 @@ pub impl fmt::Display for ZoneReport as ZoneReportDisplay {
             timeline: Timeline::Normals,
             summary: self.normals,
         };
-        let days = self.means.known as u64 + self.means.unknown as u64;
-        if days == 0 {
+        if self.days == 0 {
             return write!(f, "zone {}: no days\n{means}{normals}", self.number);
         }
         let first = Day::Dated(self.first as u64);
-        let last = Day::Dated(self.first as u64 + days - 1);
+        let last = Day::Dated(self.first as u64 + self.days as u64 - 1);
         write!(
             f,
             "zone {}: {}, {first} to {last}\n{means}{normals}",
             self.number,
-            Days(days)
+            Days(self.days)
         )
     }
 }
 
 /// The report of the zone whose numbers stand at places of a log.
 pub fn zone_report(bytes: &[u8], number: usize, places: ZonePlaces) -> ZoneReport
-    ensures { λ r. ⌜ reportedText r ≡ zoneLines number (zoneBy (now (bytes .entry)) places) ⌝ }
+    ensures { λ r. ⌜ r ≡ zoneOf number (zoneBy (now (bytes .entry)) places) ⌝ }
 {
+    let means = summary(bytes, Series::Means, places.count, places.means);
+    let normals = summary(bytes, Series::Normals, NORMALS, places.normals);
     ZoneReport {
         number,
         first: places.first,
-        means: summary(bytes, Series::Means, places.count, places.means),
-        normals: summary(bytes, Series::Normals, NORMALS, places.normals),
+        days: means.known + means.unknown,
+        means,
+        normals,
     }
 }

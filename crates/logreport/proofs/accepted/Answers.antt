@@ -35,7 +35,7 @@ loop-number-again c =
     let zone : ZonePlaces = record { first = 0; count = 0; means = 0; normals = 0 } in
     let more = lines-more xs l k zone (omega (arith, c .min-listed .ensures)) (omega (arith, wide, c .min-listed .ensures)) in
     let was = string-bytes (c .loop-number .out) in let rest = zonesLines (k + 1) (drop (k + 1) (zonesBy xs l)) in
-    c .loop-number .inv ∙ ap (λ s. was ++ s) (more ∙ ap (λ s. s ++ rest) (sym (c .zone-report-zone .ensures))) ∙ sym (append-assoc was _ rest)
+    c .loop-number .inv ∙ ap (λ s. was ++ s) (more ∙ ap (λ r. zoneLines r ++ rest) (sym (c .zone-report-zone .ensures))) ∙ sym (append-assoc was _ rest)
     ∙ ap (λ s. s ++ rest) (sym (c .in-Continue-push-zone .ensures tt))
 
 pub returns : need.returns

@@ -1,7 +1,18 @@
-use Rattle.logformat.specs.Reading.{zoneBy}
-use Rattle.logreport.proofs.Places.{zone-reported}
+use native.Mathlib.Omega.{arith}
+use borrow.Author.Needs.{needs}
+use mir.Syntax.{w32}
+use mir.Val.{Fits}
+use Rattle.logformat.specs.declared.kinds.Series.the-variants.{Means}
+use Rattle.logreport.proofs.Places.{places-bounded, places-counted}
 use Rattle.logreport.proofs.zones.zone_report.Needs as need
+
+pub add-result : need.add-result
+add-result c =
+    let places = c .args .places in
+    let fits : Fits w32 (places .count) = search needs in
+    omega (arith, places-counted _ _ (c .summary-means .ensures .meaning), places-bounded Means (c .args .bytes .now) (places .count) (places .means))
 
 pub returns : need.returns
 returns c =
-    zone-reported (c .args .number) (zoneBy (c .args .bytes .now) (c .args .places)) _ _ (c .summary .ensures .meaning) (c .summary .ensures .value) (c .summary-2 .ensures .value)
+    let days = places-counted _ _ (c .summary-means .ensures .meaning) in let means = c .summary-means .ensures .value in
+    let normals = c .summary-normals .ensures .value in cc

@@ -1,7 +1,7 @@
 use borrow.Author.Needs.{needs}
-use Rattle.logreport.specs.Report.{seriesText}
+use Rattle.logreport.specs.Report.{seriesLines}
 use Rattle.logreport.proofs.series.SeriesReportDisplay.fmt.Needs as need
 
 pub returns : need.returns
-unfolding seriesText
+unfolding seriesLines
 returns g c = search needs
