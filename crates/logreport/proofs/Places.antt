@@ -17,8 +17,9 @@ use Rattle.logformat.specs.declared.kinds.Step.{Step}
 use Rattle.logformat.specs.declared.kinds.ZonePlaces.{ZonePlaces}
 use Rattle.logformat.specs.Reading.{Part, onStep, seriesAt, seriesFrom, stepAt, zoneBy, zonesBy}
 use Rattle.logformat.specs.Zones.{Zone}
-use Rattle.logsummary.specs.Summaries.{SumsUp, count, isKnown, isUnknown}
+use Rattle.logsummary.specs.Summaries.{SumsUp, count, isKnown, isUnknown, summaryOf}
 use Rattle.logsummary.specs.declared.kinds.Summary.{Summary}
+use Rattle.logreport.specs.declared.kinds.ZoneReport.{ZoneReport}
 use Rattle.logreport.specs.Report.{emptyLine, headLine, reported, zoneLines, zoneOf, zonesLines}
 
 -- each place is known or unknown
@@ -41,6 +42,10 @@ from-bounded s bytes (suc n) last at = step-bounded (stepAt s bytes last at) (λ
 
 pub places-bounded : (s : Series) (bytes : List ℕ) (n at : ℕ) → length (seriesAt s bytes n at .list) ≤ n
 places-bounded s bytes n at = from-bounded s bytes n (pos 0) at
+
+-- the report of a zone whose series are summed up
+pub zone-reported : (number : ℕ) (z : Zone) (m n : Summary) → SumsUp (z .means) m → m ≡ summaryOf (z .means) → n ≡ summaryOf (z .normals) → _≡_ {A = ZoneReport} record { number = number; first = z .first; days = m .known + m .unknown; means = m; normals = n } (zoneOf number z)
+zone-reported number z m n h e d = rw (places-counted (z .means) m h, e, d)
 
 -- the zones that a layout lists: how many, and the next one
 pub zones-counted : (bytes : List ℕ) (l : Layout) (n : ℕ) → length (l .zones) ≡ 16 → n ≡ min (l .count) 16 → length (zonesBy bytes l) ≡ n

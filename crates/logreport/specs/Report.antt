@@ -26,7 +26,7 @@ use Rattle.logreport.specs.declared.kinds.Day.the-variants.{Dated, Yearly}
 use Rattle.logreport.specs.declared.kinds.Timeline.{Timeline}
 use Rattle.logreport.specs.declared.kinds.Timeline.the-variants.{Means, Normals}
 use Rattle.logreport.specs.declared.kinds.ZoneReport.{ZoneReport}
-use Rattle.logreport.specs.Words.{dayText, daysText, degreesText, newline, unit}
+use Rattle.logreport.specs.Words.{dayText, daysText, degreesText, fahrenheit, newline}
 
 -- the name of a series, and the day that each of its places stands for
 abbrev pub seriesName : Timeline → List ℕ
@@ -37,11 +37,12 @@ abbrev pub dayAt : Timeline → ℕ → Day
 dayAt (Means first) place = Dated (first + place)
 dayAt Normals place = Yearly place
 
--- the lines of the coldest and the warmest place
+-- the lines of the coldest and the warmest
 abbrev pub extremeLines : Timeline → Option (Extreme × Extreme) → List ℕ
 extremeLines l None = codes "    nothing known\n"
 extremeLines l (Some (coldest, warmest)) =
-    codes "    coldest " ++ (degreesText (coldest .tenths) ++ (codes " on " ++ (dayText (dayAt l (coldest .at)) ++ (codes "\n    warmest " ++ (degreesText (warmest .tenths) ++ (codes " on " ++ (dayText (dayAt l (warmest .at)) ++ newline)))))))
+    codes "    coldest " ++ (degreesText (coldest .tenths) ++ (codes " on " ++ (dayText (dayAt l (coldest .at)) ++
+    (codes "\n    warmest " ++ (degreesText (warmest .tenths) ++ (codes " on " ++ (dayText (dayAt l (warmest .at)) ++ newline)))))))
 
 -- the line of the longest gap
 abbrev pub gapLine : Timeline → Gap → List ℕ
@@ -52,7 +53,9 @@ gapLine l gap =
 -- the lines of a series
 unfoldable pub seriesLines : Timeline → Summary → List ℕ
 seriesLines l s =
-    codes "  " ++ (seriesName l ++ (codes ": " ++ (decimal (s .known) ++ (codes " known, " ++ (decimal (s .unknown) ++ (codes " unknown, " ++ (decimal (s .subzero) ++ ((codes " below 0" ++ (unit ++ newline)) ++ (extremeLines l (zipped (s .coldest) (s .warmest)) ++ gapLine l (s .longest))))))))))
+    codes "  " ++ (seriesName l ++ (codes ": " ++ (decimal (s .known) ++ (codes " known, " ++ (decimal (s .unknown) ++ (codes " unknown, " ++
+    (decimal (s .subzero) ++ ((codes " below 0" ++ (fahrenheit ++ newline)) ++
+    (extremeLines l (zipped (s .coldest) (s .warmest)) ++ gapLine l (s .longest))))))))))
 
 -- what is reported of a zone, and its lines
 abbrev pub zoneOf : ℕ → Zone → ZoneReport
@@ -64,7 +67,8 @@ zoneLines x =
     let series = seriesLines (Means (x .first)) (x .means) ++ seriesLines Normals (x .normals) in
     codes "zone " ++ (decimal (x .number) ++
     cond (eqb (x .days) 0) (codes ": no days\n" ++ series)
-    (codes ": " ++ (daysText (x .days) ++ (codes ", " ++ (dayText (Dated (x .first)) ++ (codes " to " ++ (dayText (Dated (x .first + x .days - 1)) ++ (newline ++ series))))))))
+    (codes ": " ++ (daysText (x .days) ++ (codes ", " ++
+    (dayText (Dated (x .first)) ++ (codes " to " ++ (dayText (Dated (x .first + x .days - 1)) ++ (newline ++ series))))))))
 
 -- the lines of zones, numbered from a number on
 unfoldable pub zonesLines : ℕ → List Zone → List ℕ
@@ -89,7 +93,7 @@ emptyLine = codes "weather.log: empty, nothing is known\n"
 abbrev pub headLine : ℕ → ℕ → List ℕ
 headLine size zones = codes "weather.log: " ++ (decimal size ++ (codes " bytes, zones listed: " ++ (decimal zones ++ newline)))
 
--- the report of a log of a size, from what is read in it; only an empty log lists no zones
+-- the report of a log of so many bytes, from what is read in them; only an empty log lists no zones
 abbrev pub reported : ℕ → Result (List Zone) WeatherFault → List ℕ
 reported size (Err fault) = refusedLine fault
 reported size (Ok []) = emptyLine

@@ -14,9 +14,12 @@ use Rattle.gregorian.specs.declared.kinds.Date.{Date}
 use Rattle.logreport.specs.declared.kinds.Day.{Day}
 use Rattle.logreport.specs.declared.kinds.Day.the-variants.{Dated, Yearly}
 
--- degrees Fahrenheit, after a space; UTF-8 writes the degree sign in two bytes
-abbrev pub unit : List ℕ
-unit = 32 ∷ 0xC2 ∷ 0xB0 ∷ codes "F"
+abbrev pub newline : List ℕ
+newline = codes "\n"
+
+-- a space and the unit; UTF-8 writes the degree sign in two bytes
+abbrev pub fahrenheit : List ℕ
+fahrenheit = codes " " ++ (0xC2 ∷ 0xB0 ∷ codes "F")
 
 -- a temperature in tenths as degrees with one decimal, always with its sign
 abbrev pub signText : ℤ → List ℕ
@@ -24,10 +27,7 @@ signText (pos n) = codes "+"
 signText (negsuc n) = codes "-"
 
 abbrev pub degreesText : ℤ → List ℕ
-degreesText t = signText t ++ (decimal (natAbs t / 10) ++ (codes "." ++ (decimal (natAbs t % 10) ++ unit)))
-
-abbrev pub newline : List ℕ
-newline = codes "\n"
+degreesText t = signText t ++ (decimal (natAbs t / 10) ++ (codes "." ++ (decimal (natAbs t % 10) ++ fahrenheit)))
 
 -- the name of a month; January is month 1
 abbrev pub monthName : ℕ → List ℕ

@@ -3,7 +3,8 @@ use borrow.Author.Needs.{needs}
 use mir.Syntax.{w32}
 use mir.Val.{Fits}
 use Rattle.logformat.specs.declared.kinds.Series.the-variants.{Means}
-use Rattle.logreport.proofs.Places.{places-bounded, places-counted}
+use Rattle.logformat.specs.Reading.{zoneBy}
+use Rattle.logreport.proofs.Places.{places-bounded, places-counted, zone-reported}
 use Rattle.logreport.proofs.zones.zone_report.Needs as need
 
 pub add-result : need.add-result
@@ -14,5 +15,5 @@ add-result c =
 
 pub returns : need.returns
 returns c =
-    let days = places-counted _ _ (c .summary-means .ensures .meaning) in let means = c .summary-means .ensures .value in
-    let normals = c .summary-normals .ensures .value in cc
+    let zone = zoneBy (c .args .bytes .now) (c .args .places) in
+    zone-reported (c .args .number) zone _ _ (c .summary-means .ensures .meaning) (c .summary-means .ensures .value) (c .summary-normals .ensures .value)
