@@ -1,1 +1,2 @@
+-- Lemmas for the report.
 mod Places

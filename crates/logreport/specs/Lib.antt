@@ -1,2 +1,3 @@
+-- How a report is written.
 pub mod Words
 pub mod Report

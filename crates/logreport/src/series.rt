@@ -1,5 +1,5 @@
 //! How a series of a zone is shown.
-ghost use Rattle.logreport.specs.Report.{dayAt, extremeLines, gapLine, seriesName, seriesLines};
+ghost use Rattle.logreport.specs.Report.{dayAt, extremeLines, gapLine, seriesLines, seriesName};
 ghost use Rattle.std.specs.declared.option.Option.the-variants.{Some};
 ghost use mathlib.Core.Path.{_≡_};
 use crate::kinds::Day;
@@ -20,7 +20,7 @@ impl Timeline {
         ensures { λ r. ⌜ now r ≡ seriesName self ⌝ }
     {
         match self {
-            Timeline::Means { first: _ } => "means",
+            Timeline::Means { .. } => "means",
             Timeline::Normals => "normals",
         }
     }
@@ -42,10 +42,10 @@ pub impl fmt::Display for Extremes as ExtremesDisplay {
     fn fmt<W: fmt::Write>(&self, f: &mut fmt::Formatter<W>) -> fmt::Result {
         let Extremes { timeline, ends } = self;
         match ends {
-            None => write!(f, "    nothing known\n"),
-            Some((coldest, warmest)) => write!(
+            None => writeln!(f, "    nothing known"),
+            Some((coldest, warmest)) => writeln!(
                 f,
-                "    coldest {} on {}\n    warmest {} on {}\n",
+                "    coldest {} on {}\n    warmest {} on {}",
                 Degrees(coldest.tenths),
                 timeline.day_at(coldest.at),
                 Degrees(warmest.tenths),
@@ -60,11 +60,11 @@ pub impl fmt::Display for LongestGap as LongestGapDisplay {
 
     fn fmt<W: fmt::Write>(&self, f: &mut fmt::Formatter<W>) -> fmt::Result {
         if self.gap.length == 0 {
-            return write!(f, "    longest gap: none\n");
+            return writeln!(f, "    longest gap: none");
         }
         let days = Days(self.gap.length);
         let start = self.timeline.day_at(self.gap.at);
-        write!(f, "    longest gap: {days} from {start}\n")
+        writeln!(f, "    longest gap: {days} from {start}")
     }
 }
 

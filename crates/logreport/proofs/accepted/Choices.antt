@@ -1,3 +1,4 @@
+-- What is written so far and the lines of the zones left make the whole report.
 use mathlib.Core.Path.{_≡_}
 use mathlib.Core.List.{_++_}
 use lib.ListN.{drop, length}

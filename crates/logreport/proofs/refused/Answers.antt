@@ -1,3 +1,4 @@
+-- The line of a refused log names its refusal.
 use Rattle.logreport.proofs.refused.Needs as need
 
 pub returns-in-LogTooLong : need.returns-in-LogTooLong

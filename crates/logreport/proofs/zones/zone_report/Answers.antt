@@ -1,3 +1,4 @@
+-- A zone's days are the known and the unknown means.
 use native.Mathlib.Omega.{arith}
 use borrow.Author.Needs.{needs}
 use mir.Syntax.{w32}

@@ -1,3 +1,4 @@
+-- The lines of a zone without days, and of one with days.
 use borrow.Author.Tests.{ne-eqb}
 use Rattle.logreport.specs.Report.{zoneLines}
 use Rattle.logreport.proofs.zones.ZoneReportDisplay.fmt.Needs as need
