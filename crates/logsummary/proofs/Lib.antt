@@ -1,1 +1,4 @@
+mod Places
+mod Bests
+mod Gaps
 mod Gathered
