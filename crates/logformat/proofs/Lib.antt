@@ -3,4 +3,5 @@ mod Forward
 mod Backward
 mod Following
 mod Stopped
+mod Alone
 pub mod Opening
