@@ -1,5 +1,7 @@
 //! Day numbers and dates, calendar places, the winter season, and when an ordinary notice takes effect.
 //! Day 0 is 1 January 2000, and day 36,524 is 31 December 2099.
+#![tactic(auto)]
+
 ghost use Rattle.std.specs.Prelude.{◌≡◌, ◌<◌, ◌≤◌, is_ok, IfOk, Ok, nat_le};
 ghost use Rattle.gregorian.specs.Calendar.{Ranged, date_of, dated, effective, in_calendar, in_season, numbered, place_of};
 ghost use Rattle.gregorian.specs.Reckon.{in_common_year, in_leap_year, reckoned_date, start_of};

@@ -1,4 +1,5 @@
 //! Tests of the calendar on days that another implementation reckoned.
+#![tactic(auto)]
 
 #[cfg(test)]
 mod tests {

@@ -1,4 +1,6 @@
 //! Degree days, and their variance over the days of a bill: normal less actual, summed.
+#![tactic(auto)]
+
 ghost use Rattle.std.specs.Prelude.{◌≡◌, ◌+◌, ◌*◌, ◌≤◌, IfOk, unsigned_abs};
 ghost use Rattle.degreedays.specs.DegreeDays.{day_degrees, day_difference, degree_days, faulted, variance_of};
 ghost use Rattle.degreedays.specs.Sums.{OneSum, Tells, Within};

@@ -1,4 +1,6 @@
 //! The degree days of a bill's days, in words.
+#![tactic(auto)]
+
 ghost use Rattle.std.specs.Prelude.{◌≡◌, ◌≤◌, ◌++◌, IfOk, string_bytes, OnOk, unsigned_abs};
 ghost use Rattle.degreedays.specs.DegreeDays.{day_degrees};
 ghost use Rattle.degreereport.specs.Counts.{actual_of, answer_of, asked_text, day_figures, day_line, day_lines, known_line, normal_of, period_text, source_text, sum_figures, sum_line, usage_line};

@@ -1,5 +1,7 @@
 //! Runs the tables of bill effects that the schedules print, and their worked bills, and compares
 //! what the code answers with what is printed.
+#![tactic(auto)]
+
 mod bills;
 mod tables;
 

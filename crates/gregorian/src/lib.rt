@@ -1,4 +1,6 @@
 //! The calendar's types, and the theorem that day numbers and dates correspond one to one.
+#![tactic(auto)]
+
 ghost use Rattle.gregorian.specs.Calendar.{Examples, NothingLost};
 ghost use Rattle.gregorian.specs.Faults.{refusal_of};
 ghost use Rattle.std.specs.Prelude.{◌≡◌};

@@ -1,4 +1,6 @@
 //! The listing: how its lines are written.
+#![tactic(auto)]
+
 ghost use Rattle.listing.specs.Lines.{appended, header_bytes, line_bytes};
 ghost use Rattle.std.specs.Prelude.{◌≡◌, Some, string_bytes};
 

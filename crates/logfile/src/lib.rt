@@ -1,4 +1,6 @@
 //! The file of the weather log. No contract can speak of what is read from outside.
+#![tactic(auto)]
+
 use std::fs::File;
 use std::io;
 use std::io::{ErrorKind, Read};

@@ -1,4 +1,6 @@
 //! What a packed weather log says, in words.
+#![tactic(auto)]
+
 ghost use Rattle.logformat.specs.Reading.{zones_by};
 ghost use Rattle.logreport.specs.Report.{refused_line, report_of, reported, zone_lines};
 ghost use Rattle.std.specs.Prelude.{◌≡◌, ◌++◌, length, IfOk, Ok, string_bytes, OnOk};

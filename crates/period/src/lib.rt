@@ -1,4 +1,6 @@
 //! The days that a bill covers: from the day after the last read day to the read day.
+#![tactic(auto)]
+
 ghost use Rattle.std.specs.Prelude.{◌≡◌, ◌+◌, ◌≤◌};
 ghost use Rattle.period.specs.Made.{Made};
 ghost use Rattle.period.specs.Periods.{days_before, days_from, days_of};

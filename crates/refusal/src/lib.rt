@@ -1,4 +1,6 @@
 //! What a refusal says, whichever layer it arises in.
+#![tactic(auto)]
+
 ghost use Rattle.refusal.specs.Refusals.{layer_name};
 ghost use Rattle.std.specs.Prelude.{◌≡◌};
 

@@ -1,4 +1,6 @@
 //! A run: the weather log is opened, the orders are carried out, and the listing tells what came of it.
+#![tactic(auto)]
+
 ghost use Rattle.listing.specs.Lines.{appended};
 ghost use Rattle.logformat.specs.Reading.{log_of};
 ghost use Rattle.run.specs.Runs.{carried_out, listing as listed, stop_line, stopping};

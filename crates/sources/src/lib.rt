@@ -1,4 +1,6 @@
 //! Weather sources beside the packed log: a station's table, and a source with a stand-in.
+#![tactic(auto)]
+
 ghost use Rattle.sources.specs.Tables.{or_else, table_mean, table_normal};
 ghost use Rattle.weather.specs.Temperatures.{in_range};
 ghost use Rattle.std.specs.Prelude.{◌≡◌};

@@ -1,4 +1,6 @@
 //! Tariff sheets: what a schedule fixes for each class, and the most that it lets a bill rise and fall.
+#![tactic(auto)]
+
 ghost use Rattle.std.specs.Prelude.{◌≡◌, ℕ, ◌≤◌};
 ghost use Rattle.tariff.specs.Classes.{class_number, class_of, status_number, status_of};
 ghost use Rattle.tariff.specs.Schedules.{usage};

@@ -1,5 +1,7 @@
 //! The program: reads `weather.log` in its working folder, and writes a report of what it says;
 //! or, given a zone, two read dates and a set point, the degree days of that bill.
+#![tactic(auto)]
+
 use logfile::read_log;
 use std::alloc::{AllocError, Global};
 use std::io::Write;

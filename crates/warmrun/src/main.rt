@@ -1,4 +1,6 @@
 //! The program: reads `weather.log` in its working folder and the orders on standard input, and writes the listing.
+#![tactic(auto)]
+
 use logfile::{MOST_READ, read_log};
 use std::io;
 use std::io::{Read, Write};

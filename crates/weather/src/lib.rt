@@ -1,4 +1,6 @@
 //! Weather sources: what every source of temperatures means, and the refusals of this layer.
+#![tactic(auto)]
+
 ghost use Rattle.std.specs.Prelude.{◌≡◌, ℕ, ℤ, Option};
 ghost use Rattle.weather.specs.Refusals.{refusal_of};
 ghost use Rattle.weather.specs.Temperatures.{AllRanged, Ranged};

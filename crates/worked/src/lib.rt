@@ -1,4 +1,6 @@
 //! The tariff's worked figures, as one fact.
+#![tactic(auto)]
+
 ghost use Rattle.worked.specs.Figures.{WorkedFigures};
 
 /// Computes nothing: its contract states that the worked figures follow from the definitions.
