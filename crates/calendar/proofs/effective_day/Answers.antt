@@ -6,6 +6,6 @@ use Rattle.calendar.proofs.effective_day.Goals as goal
 
 pub returns : goal.returns
 returns c =
-    let n = c.args.day in let r = c.day-number.result in
+    let n = c.args.day in let r = c.day_number.result in
     let v : r ≡ effective n = search rules in
     record { value = v; until = ap is_ok v ∙ effective_until n; later = effective_later n r v }

@@ -6,5 +6,5 @@ use Rattle.degreedays.proofs.variance.Given as goal
 abbrev pub invariant-loop-day : goal.invariant-loop-day
 invariant-loop-day g l =
     (last : ℕ) → l.initial.day ≡ last + 1 →
-    (summed (day_difference l.set-point (g.W.Source.normal l.source l.zone) (g.W.Source.mean l.source l.zone)) last (l.day - 1 - last) ≡ Ok l.sum)
-    × (nat_abs l.sum ≤ (l.set-point + 1000) * (l.day - 1 - last))
+    (summed (day_difference l.set_point (g.W.Source.normal l.source l.zone) (g.W.Source.mean l.source l.zone)) last (l.day - 1 - last) ≡ Ok l.sum)
+    × (nat_abs l.sum ≤ (l.set_point + 1000) * (l.day - 1 - last))

@@ -11,10 +11,10 @@ loop-day-init g c = λ last e. lines_none _ last _ _ (omega arith)
 
 pub loop-day-preserved : goal.loop-day-preserved
 loop-day-preserved g c = λ last e.
-    let F : ℕ → Option DayDegrees = day_degrees c.args.set-point (g.W.Source.normal c.args.source.now c.args.zone) (g.W.Source.mean c.args.source.now c.args.zone) in
+    let F : ℕ → Option DayDegrees = day_degrees c.args.set_point (g.W.Source.normal c.args.source.now c.args.zone) (g.W.Source.mean c.args.source.now c.args.zone) in
     let day = c.loop-day.day in let bs = string_bytes c.args.out.now in
     let on : day - last ≡ day + 1 - 1 - last = omega arith in
-    lines_more F last day bs _ _ (omega arith) (c.loop-day.invariant last e) (c.in-ok-push-day.ensures ∙ ap (λ o. string_bytes c.loop-day.out ++ day_line day o) c.day-degrees-degrees.ensures.value)
+    lines_more F last day bs _ _ (omega arith) (c.loop-day.invariant last e) (c.in_ok-push_day.ensures ∙ ap (λ o. string_bytes c.loop-day.out ++ day_line day o) c.day_degrees-degrees.ensures.value)
     ∙ ap (λ n. bs ++ day_lines F last n) on
 
 pub returns : goal.returns

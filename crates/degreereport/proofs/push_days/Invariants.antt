@@ -7,4 +7,4 @@ use Rattle.degreereport.proofs.push_days.Given as goal
 abbrev pub invariant-loop-day : goal.invariant-loop-day
 invariant-loop-day g l =
     (last : ℕ) → l.initial.day ≡ last + 1 →
-    string_bytes l.out ≡ string_bytes l.initial.out ++ day_lines (day_degrees l.set-point (g.W.Source.normal l.source l.zone) (g.W.Source.mean l.source l.zone)) last (l.day - 1 - last)
+    string_bytes l.out ≡ string_bytes l.initial.out ++ day_lines (day_degrees l.set_point (g.W.Source.normal l.source l.zone) (g.W.Source.mean l.source l.zone)) last (l.day - 1 - last)

@@ -5,8 +5,8 @@ use Rattle.logformat.specs.Reading.{zone_by}
 use Rattle.logreport.proofs.Places.{places_bounded, places_counted, zone_reported}
 use Rattle.logreport.proofs.zones.zone_report.Goals as goal
 
-pub overflow-add-result : goal.overflow-add-result
-overflow-add-result c =
+pub overflow_add-result : goal.overflow_add-result
+overflow_add-result c =
     let places = c.args.places in
     let fits : Fits w32 places.count = search rules in
     omega (arith, places_counted _ _ c.summary-means.ensures.meaning, places_bounded Means c.args.bytes.now places.count places.means)
