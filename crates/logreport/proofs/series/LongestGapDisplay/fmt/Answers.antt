@@ -6,4 +6,4 @@ pub returns-then-self-eq0-clause-writes : goal.returns-then-self-eq0-clause-writ
 returns-then-self-eq0-clause-writes g c = rw c.if-self-eq0.true c.writeln.ensures.writes
 
 pub returns-clause-writes : goal.returns-clause-writes
-returns-clause-writes g c = rw (ne_eqb _ 0 c.if-self-eq0.false, ← c.day-at-start.ensures) c.writeln-2.ensures.writes
+returns-clause-writes g c = rw (ne_eqb _ 0 c.if-self-eq0.false, ← c.day_at-start.ensures) c.writeln-2.ensures.writes
