@@ -17,19 +17,19 @@ loop-day-init g c = λ last e.
 pub overflow_add-normal : goal.overflow_add-normal
 overflow_add-normal g c =
     let last = c.args.period.last_read in
-    room _ c.normal-of-normal.result (c.loop-day.day - 1 - last) (c.loop-day.invariant last refl).2 c.normal-of-normal.ensures.small (omega arith)
+    room _ c.normal_of-normal.result (c.loop-day.day - 1 - last) (c.loop-day.invariant last refl).2 c.normal_of-normal.ensures.small (omega arith)
 
 pub overflow_add-actual : goal.overflow_add-actual
 overflow_add-actual g c =
     let last = c.args.period.last_read in
-    room _ c.actual-of-actual.result (c.loop-day.day - 1 - last) (c.loop-day.invariant last refl).3 c.actual-of-actual.ensures.small (omega arith)
+    room _ c.actual_of-actual.result (c.loop-day.day - 1 - last) (c.loop-day.invariant last refl).3 c.actual_of-actual.ensures.small (omega arith)
 
 pub loop-day-preserved : goal.loop-day-preserved
 loop-day-preserved g c = λ last e.
     let F : ℕ → Option DayDegrees = day_degrees c.args.set_point (g.W.Source.normal c.args.source.now c.args.zone) (g.W.Source.mean c.args.source.now c.args.zone) in
     let day = c.loop-day.day in let i = c.loop-day.invariant last e in let told = c.day_degrees-degrees.ensures.value in
-    let n = turn (λ d. normal_of (F d)) last day _ c.normal-of-normal.result (omega arith) (omega arith) i.0 i.2 (c.normal-of-normal.ensures.value ∙ ap normal_of told) c.normal-of-normal.ensures.small in
-    let a = turn (λ d. actual_of (F d)) last day _ c.actual-of-actual.result (omega arith) (omega arith) i.1 i.3 (c.actual-of-actual.ensures.value ∙ ap actual_of told) c.actual-of-actual.ensures.small in
+    let n = turn (λ d. normal_of (F d)) last day _ c.normal_of-normal.result (omega arith) (omega arith) i.0 i.2 (c.normal_of-normal.ensures.value ∙ ap normal_of told) c.normal_of-normal.ensures.small in
+    let a = turn (λ d. actual_of (F d)) last day _ c.actual_of-actual.result (omega arith) (omega arith) i.1 i.3 (c.actual_of-actual.ensures.value ∙ ap actual_of told) c.actual_of-actual.ensures.small in
     (n.0, a.0, n.1, a.1)
 
 pub returns : goal.returns
