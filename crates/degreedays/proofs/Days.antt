@@ -2,7 +2,7 @@
 use Rattle.std.proofs.Common.{◌≡◌, ℕ, zero, suc, ◌+◌, ◌-◌, ◌*◌, ◌<◌, ◌≤◌, true, ◌⊎◌, ℤ, pos, ◌+ℤ◌, ◌-ℤ◌, nat_abs, ◌≤ℤ◌, is_some, Some, None, Ok, Err, Option, Result, sym, refl, ap, ◌∙◌, inl, inr, ⊎_elim, mul-le-mul, eq-or-lt_of_le, mul-one, mul-add, arith, w32, to_z, of_z}
 use Rattle.std.proofs.lemmas.Int.{ints}
 use Rattle.degreedays.specs.DegreeDays.{one_more, summed}
-use Rattle.degreedays.specs.Sums.{FirstUnknown, SumIs, Sums, total}
+use Rattle.degreedays.specs.Sums.{FirstUnknown, Sums, total}
 
 -- one known day more
 pub sum_more : (f : ℕ → Option ℤ) (last day : ℕ) (s m : ℤ) → last < day → summed f last (day - 1 - last) ≡ Ok s → f day ≡ Some m → summed f last (day - last) ≡ Ok (s +ℤ m)

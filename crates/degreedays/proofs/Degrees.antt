@@ -1,5 +1,5 @@
 -- The degree days of a day: what they are where both temperatures are known, and how many they can be.
-use Rattle.std.proofs.Common.{◌≡◌, ℕ, ◌+◌, ◌-◌, ◌*◌, ◌<◌, ◌≤◌, ltb, ℤ, pos, negsuc, ◌+ℤ◌, ◌-ℤ◌, nat_abs, ◌≤ℤ◌, Some, None, Ok, Err, Option, Result, sym, refl, ap, ◌∙◌, subst, arith, w16, w32, SFits, to_z, of_z}
+use Rattle.std.proofs.Common.{◌≡◌, ℕ, ◌+◌, ltb, ℤ, pos, ◌≤ℤ◌, Some, Ok, Err, Option, Result, refl, arith, w16, w32, SFits, to_z, of_z}
 use Rattle.std.proofs.lemmas.Int.{ints, clamps, to_z-of_z}
 use Rattle.std.proofs.lemmas.Bool.{cond_both}
 use Rattle.gregorian.specs.Calendar.{date_of, in_calendar, place_of}

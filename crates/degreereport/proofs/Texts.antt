@@ -1,5 +1,5 @@
 -- The lines of days, one by one, and the answer where there is no count.
-use Rattle.std.proofs.Common.{◌≡◌, ℕ, zero, suc, ◌+◌, ◌-◌, ◌*◌, ◌<◌, ◌≤◌, false, List, [], ◌++◌, ℤ, pos, ◌+ℤ◌, nat_abs, Ok, Err, codes, Option, Result, sym, refl, ap, ◌∙◌, subst, arith, w32, w64, SFits, to_z, of_z}
+use Rattle.std.proofs.Common.{◌≡◌, ℕ, suc, ◌+◌, ◌-◌, ◌*◌, ◌<◌, ◌≤◌, false, List, ◌++◌, ℤ, pos, ◌+ℤ◌, nat_abs, Ok, Err, codes, Option, Result, sym, refl, ap, ◌∙◌, subst, arith, w32, w64, SFits, to_z, of_z}
 use Rattle.std.proofs.lemmas.Int.{ints}
 use Rattle.std.proofs.lemmas.List.{append_assoc, append-nil}
 use Rattle.weather.specs.declared.kinds.WeatherFault.{WeatherFault}

@@ -4,7 +4,6 @@ use Rattle.gregorian.specs.Calendar.{effective, numbered}
 use Rattle.packed.specs.Numbers.{signed_of}
 use Rattle.degreedays.specs.DegreeDays.{degree_days}
 use Rattle.period.specs.Periods.{days_before, days_from}
-use Rattle.tariff.specs.declared.kinds.Class.{Class}
 use Rattle.tariff.specs.declared.kinds.Class.TheVariants.{Residential}
 use Rattle.tariff.specs.Schedules.{coefficients195, coefficients240, rise195, rise240, fall195, fall240}
 use Rattle.amounts.specs.declared.kinds.Amounts.{Amounts}

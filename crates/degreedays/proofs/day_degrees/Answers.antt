@@ -1,5 +1,5 @@
 -- The degree days of a day whose mean and normal are known, and how many they can be.
-use Rattle.std.proofs.Common.{◌≡◌, sym, ap, ◌∙◌, w16, w32, SFits, to_z, of_z, rules}
+use Rattle.std.proofs.Common.{ap, ◌∙◌, w16, w32, SFits, rules}
 use Rattle.degreedays.proofs.Degrees.{place_told, known_both, within_both}
 use Rattle.degreedays.proofs.day_degrees.Goals as goal
 

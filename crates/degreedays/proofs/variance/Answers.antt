@@ -1,5 +1,5 @@
 -- The variance is the sum over the days, and ends at the first unknown one.
-use Rattle.std.proofs.Common.{◌≡◌, ℕ, ◌+◌, ◌-◌, ◌*◌, ◌<◌, ◌≤◌, ℤ, ◌+ℤ◌, ◌-ℤ◌, nat_abs, Ok, Err, Option, sym, refl, ap, ◌∙◌, subst, arith, w32, SFits, to_z, of_z, rules}
+use Rattle.std.proofs.Common.{◌≡◌, ℕ, ◌+◌, ◌-◌, ◌*◌, ◌≤◌, ℤ, ◌-ℤ◌, nat_abs, Ok, Err, Option, sym, refl, ap, ◌∙◌, subst, arith}
 use Rattle.std.proofs.lemmas.Int.{ints}
 use Rattle.degreedays.specs.DegreeDays.{day_difference, difference, faulted, summed}
 use Rattle.degreedays.proofs.Days.{apart, bounded, grows, stepped, sum_more, sum_stops, sums}

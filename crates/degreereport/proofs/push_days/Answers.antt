@@ -1,5 +1,5 @@
 -- The days of a period have their lines one after the other.
-use Rattle.std.proofs.Common.{◌≡◌, ℕ, ◌+◌, ◌-◌, ◌++◌, string_bytes, Option, sym, refl, ap, ◌∙◌, arith}
+use Rattle.std.proofs.Common.{◌≡◌, ℕ, ◌+◌, ◌-◌, ◌++◌, string_bytes, Option, refl, ap, ◌∙◌, arith}
 use Rattle.degreedays.specs.DegreeDays.{day_degrees}
 use Rattle.degreedays.specs.declared.kinds.DayDegrees.{DayDegrees}
 use Rattle.degreereport.specs.Counts.{day_line, day_lines}

@@ -1,5 +1,5 @@
 -- The sums of the days, one by one.
-use Rattle.std.proofs.Common.{◌≡◌, ℕ, ◌+◌, ◌-◌, ℤ, Option, sym, refl, ap, ◌∙◌, arith}
+use Rattle.std.proofs.Common.{◌≡◌, ℕ, ◌+◌, ◌-◌, ℤ, Option, refl, ap, ◌∙◌, arith}
 use Rattle.degreedays.specs.DegreeDays.{day_degrees}
 use Rattle.degreedays.specs.Sums.{total}
 use Rattle.degreedays.specs.declared.kinds.DayDegrees.{DayDegrees}

@@ -1,5 +1,5 @@
 -- Digits are read one by one.
-use Rattle.std.proofs.Common.{◌≡◌, ◌<◌, length, sym, ◌∙◌, arith}
+use Rattle.std.proofs.Common.{sym, ◌∙◌, arith}
 use Rattle.degreereport.proofs.Digits.{number_some, read_end, read_more, read_stops}
 use Rattle.degreereport.proofs.requests.number.Goals as goal
 
