@@ -6,10 +6,7 @@ ghost use Rattle.std.specs.Prelude.{◌≡◌, ◌<◌, ◌≤◌, is_ok, IfOk, 
 ghost use Rattle.gregorian.specs.Calendar.{Ranged, date_of, dated, effective, in_calendar, in_season, numbered, place_of};
 ghost use Rattle.gregorian.specs.Reckon.{in_common_year, in_leap_year, reckoned_date, start_of};
 
-use gregorian::{CalendarFault, Date};
-
-/// The days of the calendar.
-const DAYS: u64 = 36_525;
+use gregorian::{CalendarFault, Date, LAST_DAY};
 
 /// The year of day 0.
 const FIRST_YEAR: u64 = 2000;
@@ -32,21 +29,20 @@ const BEFORE_MARCH: u64 = 59;
 /// The days of a leap year before each month, and of the whole year.
 const STARTS: [u16; 13] = [0, 31, 60, 91, 121, 152, 182, 213, 244, 274, 305, 335, 366];
 
-/// The month in which the winter season ends.
-const MAY: u8 = 5;
+/// The month and the day on which the winter season begins, and notices take effect.
+const SEASON_START: (u8, u8) = (12, 1);
 
-/// The last day of the winter season, in May.
-const SEASON_END: u8 = 15;
+/// The month and the day on which the winter season ends.
+const SEASON_END: (u8, u8) = (5, 15);
 
 /// The last month whose notices take effect in their own year.
 const SEPTEMBER: u8 = 9;
 
-/// The month in which notices take effect and the winter season begins.
-const DECEMBER: u8 = 12;
-
 /// The date after `elapsed` days of `year`, which is counted as a leap year.
 fn in_leap_year(year: u64, elapsed: u64) -> Date
-    requires { (2000 ≤ year) × ((year ≤ 2099) × (elapsed < 366)) }
+    requires from { 2000 ≤ year }
+    requires to { year ≤ 2099 }
+    requires within { elapsed < 366 }
     ensures value { result ≡ in_leap_year year elapsed }
     ensures small { Ranged result }
 {
@@ -66,7 +62,9 @@ fn in_leap_year(year: u64, elapsed: u64) -> Date
 
 /// The date after `elapsed` days of the common year `year`.
 fn in_common_year(year: u64, elapsed: u64) -> Date
-    requires { (2000 ≤ year) × ((year ≤ 2099) × (elapsed < 365)) }
+    requires from { 2000 ≤ year }
+    requires to { year ≤ 2099 }
+    requires within { elapsed < 365 }
     ensures value { result ≡ in_common_year year elapsed }
     ensures small { Ranged result }
 {
@@ -101,7 +99,7 @@ pub fn date_of(day: u64) -> Result<Date, CalendarFault>
     ensures small { IfOk result (λ x. Ranged x) }
     ensures back { IfOk result (λ x. numbered x.year x.month x.day ≡ Ok day) }
 {
-    if day >= DAYS {
+    if day > u64::from(LAST_DAY) {
         return Err(CalendarFault::NotInCalendar);
     }
     Ok(reckoned(day))
@@ -109,10 +107,11 @@ pub fn date_of(day: u64) -> Result<Date, CalendarFault>
 
 /// The first day of month `month`, from 0, of the year 2000 + `k`.
 fn start_of(k: u64, month: u64) -> u64
-    requires { (k < 100) × (month ≤ 12) }
+    requires year { k < 100 }
+    requires month { month ≤ 12 }
     ensures { result ≡ start_of k month }
 {
-    let leap_years = (k + 3) / 4;
+    let leap_years = k.div_ceil(4);
     let start = COMMON_YEAR * k + leap_years + STARTS[month as usize] as u64;
     // The table counts 29 February, which a common year does not have.
     if k % 4 == 0 || month < 2 {
@@ -122,13 +121,16 @@ fn start_of(k: u64, month: u64) -> u64
     }
 }
 
-/// The day number of a date.
+/// The day number of a date, of which each part may be any number.
 pub fn day_number(year: u64, month: u64, day: u64) -> Result<u32, CalendarFault>
     ensures value { result ≡ numbered year month day }
     ensures back { IfOk result (λ n. dated n ≡ Ok record { year = year; month = month; day = day }) }
     ensures inside { IfOk result (λ n. n < 36525) }
 {
-    if year < FIRST_YEAR || year > LAST_YEAR || month < 1 || month > 12 || day < 1 || day > 31 {
+    if !(FIRST_YEAR..=LAST_YEAR).contains(&year)
+        || !(1..=12).contains(&month)
+        || !(1..=31).contains(&day)
+    {
         return Err(CalendarFault::NotInCalendar);
     }
     let k = year - FIRST_YEAR;
@@ -153,7 +155,8 @@ pub fn in_season(day: u64) -> Result<bool, CalendarFault>
     ensures value { result ≡ in_calendar day (in_season (date_of day)) }
 {
     let date = date_of(day)?;
-    Ok(date.month == DECEMBER || date.month < MAY || (date.month == MAY && date.day <= SEASON_END))
+    let month_and_day = (date.month, date.day);
+    Ok(month_and_day >= SEASON_START || month_and_day <= SEASON_END)
 }
 
 /// The effective day of an ordinary notice: 1 December of its year, and after 30 September that of the next.
@@ -169,5 +172,6 @@ pub fn effective_day(day: u64) -> Result<u32, CalendarFault>
     } else {
         year
     };
-    day_number(effective_year, DECEMBER as u64, 1)
+    let (month, day) = SEASON_START;
+    day_number(effective_year, month as u64, day as u64)
 }

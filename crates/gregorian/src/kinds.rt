@@ -1,6 +1,12 @@
-//! The types of the calendar.
+//! The types and the limits of the calendar.
 
-/// A date of the Gregorian calendar: the month from 1 to 12, the day from 1 to 31.
+/// The last day of the calendar, 31 December 2099.
+pub const LAST_DAY: u32 = 36_524;
+
+/// The last calendar place.
+pub const LAST_PLACE: u16 = 366;
+
+/// A date by its numbers; one of the calendar has a month from 1 to 12 and a day of that month.
 #[derive(Clone, Copy, Debug, PartialEq, Eq)]
 pub struct Date {
     pub year: u16,

@@ -9,14 +9,13 @@ use refusal::{Layer, Refusal};
 
 pub mod kinds;
 
-pub use kinds::{CalendarFault, Date};
+pub use kinds::{CalendarFault, Date, LAST_DAY, LAST_PLACE};
 
-impl CalendarFault {
-    /// What a refusal by the calendar says.
-    pub fn refusal(self) -> Refusal
-        ensures { result ≡ refusal_of self }
-    {
-        match self {
+impl From<CalendarFault> for Refusal {
+    ghost from_gives = { λ e r. r ≡ refusal_of e };
+
+    fn from(fault: CalendarFault) -> Refusal {
+        match fault {
             CalendarFault::NotInCalendar => Refusal {
                 number: 2,
                 layer: Layer::Book,

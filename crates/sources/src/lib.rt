@@ -1,35 +1,21 @@
 //! Weather sources beside the packed log: a station's table, and a source with a stand-in.
 #![tactic(auto)]
 
-ghost use Rattle.sources.specs.Tables.{or_else, table_mean, table_normal};
-ghost use Rattle.weather.specs.Temperatures.{in_range};
+ghost use Rattle.sources.specs.Tables.{Ranged-or_else, or_else, table_mean, table_normal, temp_at};
+ghost use Rattle.std.proofs.Common.{rules};
 ghost use Rattle.std.specs.Prelude.{◌≡◌};
 
 pub mod kinds;
 
+use gregorian::{LAST_DAY, LAST_PLACE};
 pub use kinds::{StandIn, StationTable};
-use weather::Source;
+use weather::{LAST_ZONE, Source, in_range};
 
-/// The lowest and the highest temperature that a source may know.
-const LOWEST: i16 = -1_000;
-
-const HIGHEST: i16 = 1_500;
-
-/// The last zone, the last day of the calendar and the last calendar place.
-const LAST_ZONE: u8 = 15;
-
-const LAST_DAY: u32 = 36_524;
-
-const LAST_PLACE: u16 = 366;
-
-/// A temperature, where it lies in the range.
-fn known(tenths: i16) -> Option<i16>
-    ensures { result ≡ in_range tenths }
+/// The temperature at a place of a table: nothing past its end, or out of range.
+fn told_at(table: &[i16], at: usize) -> Option<i16>
+    ensures { result ≡ temp_at table.now at }
 {
-    if tenths < LOWEST || tenths > HIGHEST {
-        return None;
-    }
-    Some(tenths)
+    in_range(i64::from(*table.get(at)?))
 }
 
 impl Source for StationTable<'_> {
@@ -37,29 +23,23 @@ impl Source for StationTable<'_> {
 
     ghost normal = { λ s zone place. table_normal s.zone s.normals.now zone place };
 
+    ghost means_ranged = { Prim.search rules };
+
+    ghost normals_ranged = { Prim.search rules };
+
     fn mean_on(&self, zone: u8, day: u32) -> Option<i16> {
-        if zone > LAST_ZONE || zone != self.zone || day < self.first_day || day > LAST_DAY {
+        if zone > LAST_ZONE || zone != self.zone || day > LAST_DAY {
             return None;
         }
-        let at = (day - self.first_day) as usize;
-        if at >= self.means.len() {
-            return None;
-        }
-        known(self.means[at])
+        told_at(self.means, day.checked_sub(self.first_day)? as usize)
     }
 
     fn normal_at(&self, zone: u8, place: u16) -> Option<i16> {
-        if zone > LAST_ZONE || zone != self.zone || place < 1 || place > LAST_PLACE {
+        if zone > LAST_ZONE || zone != self.zone || place > LAST_PLACE {
             return None;
         }
-        let at = (place - 1) as usize;
-        if at >= self.normals.len() {
-            return None;
-        }
-        known(self.normals[at])
+        told_at(self.normals, place.checked_sub(1)? as usize)
     }
-
-    fn show_range(&self) {}
 }
 
 impl<F: Source, G: Source> Source for StandIn<F, G> {
@@ -67,22 +47,17 @@ impl<F: Source, G: Source> Source for StandIn<F, G> {
 
     ghost normal = { λ s zone place. or_else (F.Source.normal s.first zone place) (G.Source.normal s.second zone place) };
 
+    ghost means_ranged = { λ s zone day. Ranged-or_else zone day 0 36524 _ _ (F.Source.means_ranged s.first zone day) (G.Source.means_ranged s.second zone day) };
+
+    ghost normals_ranged = { λ s zone place. Ranged-or_else zone place 1 366 _ _ (F.Source.normals_ranged s.first zone place) (G.Source.normals_ranged s.second zone place) };
+
     fn mean_on(&self, zone: u8, day: u32) -> Option<i16> {
-        match self.first.mean_on(zone, day) {
-            Some(tenths) => Some(tenths),
-            None => self.second.mean_on(zone, day),
-        }
+        let mean = self.first.mean_on(zone, day);
+        mean.or_else(|| self.second.mean_on(zone, day))
     }
 
     fn normal_at(&self, zone: u8, place: u16) -> Option<i16> {
-        match self.first.normal_at(zone, place) {
-            Some(tenths) => Some(tenths),
-            None => self.second.normal_at(zone, place),
-        }
-    }
-
-    fn show_range(&self) {
-        self.first.show_range();
-        self.second.show_range();
+        let normal = self.first.normal_at(zone, place);
+        normal.or_else(|| self.second.normal_at(zone, place))
     }
 }

@@ -3,7 +3,7 @@
 
 ghost use Rattle.std.specs.Prelude.{◌≡◌, ℕ, ℤ, Option};
 ghost use Rattle.weather.specs.Refusals.{refusal_of};
-ghost use Rattle.weather.specs.Temperatures.{AllRanged, Ranged};
+ghost use Rattle.weather.specs.Temperatures.{AllRanged, Ranged, in_range};
 ghost use Rattle.weather.specs.declared.kinds.WeatherFault.TheVariants.{BadNumber};
 
 pub mod kinds;
@@ -12,11 +12,20 @@ pub use kinds::WeatherFault;
 use packed::NumberFault;
 use refusal::{Layer, Refusal};
 
+/// The last zone.
+pub const LAST_ZONE: u8 = 15;
+
+/// The lowest and the highest temperature that a source may know, in tenths.
+const LOWEST: i64 = -1_000;
+
+const HIGHEST: i64 = 1_500;
+
 /// A source of temperatures, in signed tenths of a degree Fahrenheit.
 ///
 /// It means, for each zone from 0 to 15, a mean for each day of the calendar and a normal for
 /// each calendar place from 1 to 366, or nothing known; elsewhere it knows nothing. A question
-/// tells the meaning and changes nothing.
+/// tells the meaning and changes nothing. There are two questions, since a mean stands by its day
+/// and a normal by its place.
 pub trait Source {
     ghost mean: { Self → ℕ → ℕ → Option ℤ };
 
@@ -32,10 +41,9 @@ pub trait Source {
         ensures meaning { result ≡ normal self.now zone place }
         ensures ranged { Ranged zone place 1 366 result };
 
-    /// Shows the range of all that the source means, whatever is asked.
-    fn show_range(&self)
-        ensures means { AllRanged 0 36524 (mean self.now) }
-        ensures normals { AllRanged 1 366 (normal self.now) };
+    ghost means_ranged: { (s : Self) → AllRanged 0 36524 (mean s) };
+
+    ghost normals_ranged: { (s : Self) → AllRanged 1 366 (normal s) };
 }
 
 /// A source that is lent is a source, and means the same.
@@ -44,6 +52,10 @@ impl<W: Source> Source for &W {
 
     ghost normal = { λ s zone place. W.Source.normal s.now zone place };
 
+    ghost means_ranged = { λ s. W.Source.means_ranged s.now };
+
+    ghost normals_ranged = { λ s. W.Source.normals_ranged s.now };
+
     fn mean_on(&self, zone: u8, day: u32) -> Option<i16> {
         (**self).mean_on(zone, day)
     }
@@ -51,18 +63,23 @@ impl<W: Source> Source for &W {
     fn normal_at(&self, zone: u8, place: u16) -> Option<i16> {
         (**self).normal_at(zone, place)
     }
-
-    fn show_range(&self) {
-        (**self).show_range();
-    }
 }
 
-impl WeatherFault {
-    /// The refusal's number, its layer and its places.
-    pub fn refusal(self) -> Refusal
-        ensures { result ≡ refusal_of self }
-    {
-        let (number, first, second) = match self {
+/// A temperature, where it lies in the range.
+pub fn in_range(tenths: i64) -> Option<i16>
+    ensures { result ≡ in_range tenths }
+{
+    if !(LOWEST..=HIGHEST).contains(&tenths) {
+        return None;
+    }
+    Some(tenths as i16)
+}
+
+impl From<WeatherFault> for Refusal {
+    ghost from_gives = { λ e r. r ≡ refusal_of e };
+
+    fn from(fault: WeatherFault) -> Refusal {
+        let (number, first, second) = match fault {
             WeatherFault::Unknown { zone, day } => (11, zone as u64, day as u64),
             WeatherFault::LogTooLong => (20, 0, 0),
             WeatherFault::BadNumber { place } => (21, place as u64, 0),
