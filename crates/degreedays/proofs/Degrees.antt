@@ -13,7 +13,7 @@ use Rattle.degreedays.specs.Sums.{Within}
 pub place_told : (day place : ℕ) → Ok place ≡ in_calendar day (place_of (date_of day)) → place ≡ place_of (date_of day)
 place_told day place e =
     cond_both (ltb day 36525) (Ok (place_of (date_of day))) (Err _) (λ (r : Result ℕ CalendarFault). Ok place ≡ r → place ≡ place_of (date_of day)) (λ _ s. cc)
-    (λ _ s. let z : ◌≡◌ {A = ℕ} 0 1 = cc in absurd (omega arith)) e
+    (λ _ s. absurd (cc)) e
 
 -- numbers that are passed by their bits
 pub passed : (sp : ℕ) (t a : ℤ) → SFits w16 t → SFits w32 a → a ≡ degree_days sp (to_z w16 (of_z w16 t)) → to_z w32 (of_z w32 a) ≡ degree_days sp t

@@ -11,23 +11,20 @@ total-same g h last (suc n) e =
     ap (λ s. s +ℤ g (last + suc n)) (total-same g h last n (λ day a b. e day a (omega arith))) ∙ ap (λ m. total h last n +ℤ m) (e (last + suc n) (omega arith) (omega arith))
 
 -- a day is not both known and unknown
-clash : (o : Option ℤ) (m : ℤ) → o ≡ Some m → o ≡ None → ⊥
-clash o m p q = let z : ◌≡◌ {A = ℕ} 0 1 = cc in omega arith
-
-unsaid : (o : Option ℤ) → is_some o ≡ true → o ≡ None → ⊥
-unsaid None p q = let z : ◌≡◌ {A = ℕ} 0 1 = cc in omega arith
-unsaid (Some m) p q = clash (Some m) m refl q
+clash : (o : Option ℤ) → is_some o ≡ true → o ≡ None → ⊥
+clash None p q = cc
+clash (Some m) p q = cc
 
 pub one_sum : OneSum
 one_sum f last read (Ok v) (Ok w) a b =
     ap Ok (a.is ∙ total-same a.each b.each last (read - last) (λ day p q. let l = a.known day p (omega arith) in let r = b.known day p (omega arith) in cc) ∙ sym b.is)
-one_sum f last read (Ok v) (Err e) a b = absurd (clash (f e) (a.each e) (a.known e b.after b.until) b.unknown)
-one_sum f last read (Err d) (Ok w) a b = absurd (clash (f d) (b.each d) (b.known d a.after a.until) a.unknown)
+one_sum f last read (Ok v) (Err e) a b = let known = a.known e b.after b.until in let unknown = b.unknown in absurd (cc)
+one_sum f last read (Err d) (Ok w) a b = let known = b.known d a.after a.until in let unknown = a.unknown in absurd (cc)
 one_sum f last read (Err d) (Err e) a b =
     elim (cases_lt d e) [
-      | inl less ↦ absurd (unsaid (f d) (b.known d a.after less) a.unknown)
+      | inl less ↦ absurd (clash (f d) (b.known d a.after less) a.unknown)
       | inr least ↦
-          elim (cases_lt e d) [ inl less ↦ absurd (unsaid (f e) (a.known e b.after less) b.unknown) | inr most ↦ ap Err (omega arith) ]
+          elim (cases_lt e d) [ inl less ↦ absurd (clash (f e) (a.known e b.after less) b.unknown) | inr most ↦ ap Err (omega arith) ]
     ]
 
 -- so whatever meets the relation is the sum from day to day

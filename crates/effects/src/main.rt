@@ -4,16 +4,22 @@
 
 mod bills;
 mod tables;
+mod worked;
 
-use amounts::Figures;
-use bills::{bill, gap_bills, one_margin, weather_bill};
+use bills::{DECEMBER_25, JANUARY_24, gap_bills, weather_bill};
 use period::Period;
+use refusal::Refusal;
 use std::io;
-use tables::{Row, Table};
-use tariff::{Class, Schedule195, Schedule240, Sheet, Status};
+use tables::{Row, Table, residential_195, tables};
+use tariff::Status;
+use weather::WeatherFault;
+use worked::run_bills;
 
-/// 24 January 2025.
-const JANUARY_24: u32 = 9_155;
+/// How much colder than normal a day is, in tenths of a degree: 50.0 degree days more.
+const COLDER: i16 = 500;
+
+/// The formula amount then of a residential bill by Schedule 195.
+const COLDER_AMOUNT: i64 = -627_984;
 
 /// The word for a comparison.
 fn verdict(agrees: bool) -> &'static str {
@@ -25,156 +31,159 @@ fn equivalent_therms(variance: u16, coefficient: u32) -> u64 {
     (10 * variance as u64 * coefficient as u64 + 50) / 100
 }
 
-/// The adjustment of a row in cents, half up, where a bill rises after a warmer period by as much
-/// as it falls after a colder one.
-fn adjustment<S: Sheet>(table: &Table, row: Row) -> Option<u64> {
-    if row.variance > 50 {
-        return None;
-    }
-    let warmer = 10 * row.variance as i16;
-    let figures = one_margin(0, 0, 0, 0, table.margin);
-    let rise = weather_bill::<S>(table.class, Status::In, JANUARY_24, warmer, figures)?;
-    let fall = weather_bill::<S>(table.class, Status::In, JANUARY_24, -warmer, figures)?;
-    if rise <= 0 || fall >= 0 || rise.unsigned_abs() != fall.unsigned_abs() {
+/// The adjustment of a variance in cents, half up, where a bill rises after a warmer period by as
+/// much as it falls after a colder one.
+fn adjustment(table: &Table, variance: u16) -> Option<u64> {
+    let warmer = i16::try_from(10 * variance as u32).ok()?;
+    let rise = weather_bill(table, Status::In, JANUARY_24, warmer)?;
+    let fall = weather_bill(table, Status::In, JANUARY_24, -warmer)?;
+    if rise <= 0 || rise.checked_neg() != Some(fall) {
         return None;
     }
     Some(rise.unsigned_abs().saturating_add(500) / 1000)
 }
 
+/// The row that is computed for a variance.
+fn row(table: &Table, variance: u16) -> Option<Row> {
+    Some(Row {
+        variance,
+        therms: equivalent_therms(variance, table.terms.coefficient),
+        cents: adjustment(table, variance)?,
+    })
+}
+
 /// Writes what is computed for a row, and whether it is printed so.
-fn run_row<S: Sheet>(rt: &HostRuntime, table: &Table, row: Row) -> io::Result<()> {
-    let variance = row.variance;
-    let therms = equivalent_therms(variance, S::terms(table.class).coefficient);
-    match adjustment::<S>(table, row) {
-        Some(cents) => println!(rt;
+fn run_row(rt: &impl Print, table: &Table, printed: Row) -> io::Result<()> {
+    let variance = printed.variance;
+    match row(table, variance) {
+        Some(row) => println!(rt;
             "{variance:4}: {:2}.{:04} therms, ${:2}.{:02}, {}",
-            therms / 10_000,
-            therms % 10_000,
-            cents / 100,
-            cents % 100,
-            verdict(therms == row.therms && cents == row.cents)
+            row.therms / 10_000,
+            row.therms % 10_000,
+            row.cents / 100,
+            row.cents % 100,
+            verdict(row == printed)
         ),
         None => println!(rt; "{variance:4}: no bill"),
     }
 }
 
 /// Runs a table.
-fn run_table<S: Sheet>(rt: &HostRuntime, table: &Table) -> io::Result<()> {
+fn run_table(rt: &impl Print, table: &Table) -> io::Result<()> {
     println!(rt; "{}", table.title)?;
     for row in table.rows {
-        run_row::<S>(rt, table, row)?;
+        run_row(rt, table, row)?;
     }
     Ok(())
 }
 
-/// Writes the formula amount of a residential bill by Schedule 195 after 50.0 degree days more than normal.
-fn run_season(
-    rt: &HostRuntime,
-    date: &str,
-    status: Status,
+fn run_tables(rt: &impl Print) -> io::Result<()> {
+    for table in &tables() {
+        run_table(rt, table)?;
+    }
+    Ok(())
+}
+
+/// A read day, the status then, and the formula amount of a residential bill by Schedule 195 after
+/// 50.0 degree days more than normal.
+#[derive(Clone, Copy)]
+struct Season {
+    date: &'static str,
     read_day: u32,
-    expected: i64,
-) -> io::Result<()> {
-    let figures = one_margin(0, 0, 0, 0, 80_858);
-    match weather_bill::<Schedule195>(Class::Residential, status, read_day, -500, figures) {
-        Some(amount) => println!(rt; "read on {date}: {amount}, {}", verdict(amount == expected)),
+    status: Status,
+    amount: i64,
+}
+
+/// The days on which the winter season begins and ends, and one in it.
+const SEASONS: [Season; 5] = [
+    Season {
+        date: "30 November 2024",
+        read_day: 9_100,
+        status: Status::In,
+        amount: 0,
+    },
+    Season {
+        date: "1 December 2024",
+        read_day: 9_101,
+        status: Status::In,
+        amount: COLDER_AMOUNT,
+    },
+    Season {
+        date: "15 May 2025",
+        read_day: 9_266,
+        status: Status::In,
+        amount: COLDER_AMOUNT,
+    },
+    Season {
+        date: "16 May 2025",
+        read_day: 9_267,
+        status: Status::In,
+        amount: 0,
+    },
+    Season {
+        date: "24 January 2025, status out",
+        read_day: JANUARY_24,
+        status: Status::Out,
+        amount: 0,
+    },
+];
+
+/// Writes the formula amount of a read day, and whether it is the one that is wanted.
+fn run_season(rt: &impl Print, season: Season) -> io::Result<()> {
+    let date = season.date;
+    match weather_bill(&residential_195(), season.status, season.read_day, -COLDER) {
+        Some(amount) => println!(rt;
+            "read on {date}: {amount}, {}",
+            verdict(amount == season.amount)
+        ),
         None => println!(rt; "read on {date}: no bill"),
     }
 }
 
-/// Writes the amounts of a worked bill.
-fn run_bill<S: Sheet>(
-    rt: &HostRuntime,
-    sheet: &S,
-    variance: i32,
-    figures: Figures,
-    expected: (i64, i64, u64),
-) -> io::Result<()> {
-    let therms = figures.therms;
-    match bill(sheet, variance, figures) {
-        Some(a) => println!(rt;
-            "{therms} therms: applied {}, rest {}, {} cents, {}",
-            a.applied,
-            a.rest,
-            a.cents,
-            verdict(a.applied == expected.0 && a.rest == expected.1 && a.cents == expected.2)
-        ),
-        None => println!(rt; "{therms} therms: no bill"),
-    }
-}
-
-fn run_tables(rt: &HostRuntime) -> io::Result<()> {
-    run_table::<Schedule195>(rt, &tables::residential_195())?;
-    run_table::<Schedule195>(rt, &tables::commercial_195())?;
-    run_table::<Schedule240>(rt, &tables::residential_240())?;
-    run_table::<Schedule240>(rt, &tables::commercial_240())
-}
-
-fn run_seasons(rt: &HostRuntime) -> io::Result<()> {
+fn run_seasons(rt: &impl Print) -> io::Result<()> {
     println!(rt; "Formula amounts by the read day")?;
-    run_season(rt, "30 November 2024", Status::In, 9_100, 0)?;
-    run_season(rt, "1 December 2024", Status::In, 9_101, -627_984)?;
-    run_season(rt, "15 May 2025", Status::In, 9_266, -627_984)?;
-    run_season(rt, "16 May 2025", Status::In, 9_267, 0)?;
-    run_season(
-        rt,
-        "24 January 2025, status out",
-        Status::Out,
-        JANUARY_24,
-        0,
-    )
+    for season in SEASONS {
+        run_season(rt, season)?;
+    }
+    Ok(())
 }
 
-fn run_bills(rt: &HostRuntime) -> io::Result<()> {
-    println!(rt; "Worked bills")?;
-    let example = one_margin(129, 133_108, 1_000_000, 0, 80_858);
-    run_bill(rt, &Schedule195, -500, example, (-627_972, -12, 17_543))?;
-    let example = one_margin(129, 109_522, 1_200_000, 80_000, 36_119);
-    run_bill(rt, &Schedule240, -500, example, (-343_656, -16, 14_985))?;
-    let capped = one_margin(100, 133_108, 0, 0, 80_858);
-    run_bill(
-        rt,
-        &Schedule195,
-        2_000,
-        capped,
-        (1_200_000, 1_311_935, 14_511),
-    )?;
-    let quarter = one_margin(20, 133_108, 0, 0, 80_858);
-    run_bill(
-        rt,
-        &Schedule195,
-        2_000,
-        quarter,
-        (665_540, 1_846_395, 3_328),
-    )?;
-    let none = one_margin(0, 133_108, 0, 0, 80_858);
-    run_bill(rt, &Schedule195, 2_000, none, (0, 2_511_935, 0))
-}
-
-fn run_gap(rt: &HostRuntime) -> io::Result<()> {
-    println!(rt; "A day that the station did not read")?;
-    let Some(bills) = gap_bills(500, one_margin(0, 0, 0, 0, 80_858)) else {
-        return println!(rt; "no bill");
-    };
-    match bills.alone {
-        Ok(amount) => println!(rt; "alone: {amount}, {}", verdict(false))?,
+/// Writes the formula amount by the station alone, which is refused for the day that it did not read.
+fn run_alone(rt: &impl Print, alone: Result<i64, WeatherFault>) -> io::Result<()> {
+    match alone {
+        Ok(amount) => println!(rt; "alone: {amount}, {}", verdict(false)),
         Err(fault) => {
-            let refusal = fault.refusal();
-            let (number, zone, day) = (refusal.number, refusal.first, refusal.second);
-            let agrees = number == 11 && zone == 0 && day == 9_126;
+            let refusal = Refusal::from(fault);
+            let day = DECEMBER_25 + 1;
             println!(rt;
-                "alone: refused with {number}, zone {zone}, day {day}, {}",
-                verdict(agrees)
-            )?;
+                "alone: refused with {}, zone {}, day {}, {}",
+                refusal.number,
+                refusal.first,
+                refusal.second,
+                verdict(fault == WeatherFault::Unknown { zone: 0, day })
+            )
         }
     }
-    match bills.helped {
+}
+
+/// Writes the formula amount with a stand-in for that day.
+fn run_helped(rt: &impl Print, helped: Result<i64, WeatherFault>) -> io::Result<()> {
+    match helped {
         Ok(amount) => println!(rt;
             "with a stand-in: {amount}, {}",
-            verdict(amount == -627_984)
+            verdict(amount == COLDER_AMOUNT)
         ),
         Err(_) => println!(rt; "with a stand-in: refused, {}", verdict(false)),
     }
+}
+
+fn run_gap(rt: &impl Print) -> io::Result<()> {
+    println!(rt; "A day that the station did not read")?;
+    let Some(bills) = gap_bills(COLDER) else {
+        return println!(rt; "no bill");
+    };
+    run_alone(rt, bills.alone)?;
+    run_helped(rt, bills.helped)
 }
 
 fn main(rt: HostRuntime) -> io::Result<()> {
@@ -182,8 +191,9 @@ fn main(rt: HostRuntime) -> io::Result<()> {
     run_seasons(&rt)?;
     run_gap(&rt)?;
     run_bills(&rt)?;
-    let longest = Period::new(9_125, 9_187).is_some();
-    let longer = Period::new(9_125, 9_188).is_some();
+    let first = DECEMBER_25 as u64;
+    let longest = Period::new(first, first + 62).is_some();
+    let longer = Period::new(first, first + 63).is_some();
     println!(rt; "a period of 62 days: {}", verdict(longest))?;
     println!(rt; "a period of 63 days: {}", verdict(!longer))
 }

@@ -2,7 +2,7 @@
 ghost use Rattle.period.specs.Periods.{Allowed};
 
 /// The two read days of a bill: the last one before it, which it does not cover, and its own.
-#[derive(Clone, Copy)]
+#[derive(Clone, Copy, Debug, PartialEq, Eq)]
 pub struct Period {
     pub last_read: u32,
     pub read_day: u32,

@@ -2,7 +2,7 @@
 ghost use Rattle.std.specs.Prelude.{◌≤◌};
 
 /// A set point in tenths of a degree Fahrenheit, and a coefficient in hundred-thousandths of a therm per degree day.
-#[derive(Clone, Copy)]
+#[derive(Clone, Copy, Debug, PartialEq, Eq)]
 pub struct Terms {
     pub set_point: u16,
     pub coefficient: u32,

@@ -8,7 +8,7 @@ use Rattle.tariff.specs.declared.kinds.Class.TheVariants.{Residential}
 use Rattle.tariff.specs.Schedules.{coefficients195, coefficients240, rise195, rise240, fall195, fall240}
 use Rattle.amounts.specs.declared.kinds.Amounts.{Amounts}
 use Rattle.amounts.specs.declared.kinds.Figures.{Figures}
-use Rattle.amounts.specs.Steps.{amounts_of, formula_of, limit_of}
+use Rattle.amounts.specs.Steps.{amounts_of, formula_of, limit_of, sale_of}
 
 -- figures with one margin: the change day is past
 abbrev pub figures : ℕ → ℕ → ℕ → ℕ → ℕ → Figures
@@ -25,11 +25,11 @@ formula240 variance f = formula_of variance (coefficients240 Residential) 9125 9
 -- the amounts of such a bill, with a temporary rate of 0
 abbrev pub bill195 : ℤ → Figures → Amounts
 bill195 variance f =
-    amounts_of (formula195 variance f) (limit_of rise195 fall195 Residential f f.rate (formula195 variance f)) f f.rate (pos 0)
+    amounts_of (formula195 variance f) (limit_of rise195 fall195 (sale_of Residential f f.rate) (formula195 variance f)) f f.rate (pos 0)
 
 abbrev pub bill240 : ℤ → Figures → Amounts
 bill240 variance f =
-    amounts_of (formula240 variance f) (limit_of rise240 fall240 Residential f f.rate (formula240 variance f)) f f.rate (pos 0)
+    amounts_of (formula240 variance f) (limit_of rise240 fall240 (sale_of Residential f f.rate) (formula240 variance f)) f f.rate (pos 0)
 
 -- a colder period of 50.0 degree days, and a warmer one of 200.0
 abbrev pub colder : ℤ
