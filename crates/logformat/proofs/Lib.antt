@@ -5,3 +5,4 @@ mod Following
 mod Stopped
 mod Alone
 pub mod Opening
+pub mod Ranges
