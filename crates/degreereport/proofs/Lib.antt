@@ -1,3 +1,3 @@
 -- Lemmas for requests and their answers.
+mod Days
 mod Digits
-mod Texts

@@ -1,45 +1,39 @@
 //! How a request is written: four words.
 ghost use Rattle.std.specs.Prelude.{◌≡◌, ◌≤◌, IfSome};
-ghost use Rattle.degreereport.specs.Requests.{date_by, number_up_to, one_digit, request_by};
+ghost use Rattle.degreereport.specs.Requests.{date_by, number_up_to, one_digit};
 
-use crate::kinds::Request;
+use crate::kinds::{Request, Words};
 use gregorian::Date;
-
-/// The last zone.
-const LAST_ZONE: u16 = 15;
+use weather::LAST_ZONE;
 
 /// The highest set point, in tenths of a degree Fahrenheit.
-const HIGHEST: u16 = 9_999;
+const HIGHEST_SET_POINT: u16 = 9_999;
 
 /// A number after one digit more, where that is a digit and the number is not too large.
 fn one_digit(value: u16, byte: u8, most: u16) -> Option<u16>
     ensures value { result ≡ one_digit most value byte }
     ensures small { IfSome result (λ n. n ≤ most) }
 {
-    if byte < b'0' || byte > b'9' {
+    if !byte.is_ascii_digit() {
         return None;
     }
-    let next = 10 * value as u32 + (byte - b'0') as u32;
-    if next > most as u32 {
-        return None;
-    }
-    Some(next as u16)
+    let next = 10 * u32::from(value) + u32::from(byte - b'0');
+    u16::try_from(next).ok().filter(|next| *next <= most)
 }
 
 /// The number that decimal digits write, where it is not too large.
+/// Words are bytes and may be no text; `parse` would take text, and a sign before the digits.
+#[tactic(auto, using(crate::proofs::Digits::number_some, crate::proofs::Digits::read_more, crate::proofs::Digits::read_stops, crate::proofs::Digits::read_end))]
 fn number(bytes: &[u8], most: u16) -> Option<u16>
     ensures value { result ≡ number_up_to most bytes.now }
     ensures small { IfSome result (λ n. n ≤ most) }
 {
-    if bytes.len() == 0 {
+    if bytes.is_empty() {
         return None;
     }
     let mut value = 0;
     for byte in bytes {
-        let Some(next) = one_digit(value, *byte, most) else {
-            return None;
-        };
-        value = next;
+        value = one_digit(value, *byte, most)?;
     }
     Some(value)
 }
@@ -51,28 +45,25 @@ fn date(bytes: &[u8]) -> Option<Date>
     if bytes.len() != 10 || bytes[4] != b'-' || bytes[7] != b'-' {
         return None;
     }
-    let year = number(&bytes[0..4], 9_999)?;
-    let month = number(&bytes[5..7], 99)?;
-    let day = number(&bytes[8..10], 99)?;
     Some(Date {
-        year,
-        month: month as u8,
-        day: day as u8,
+        year: number(&bytes[0..4], 9_999)?,
+        month: number(&bytes[5..7], 99)? as u8,
+        day: number(&bytes[8..10], 99)? as u8,
     })
 }
 
-/// The request that four words write: zone, earlier and later read date, set point.
-pub fn request(zone: &[u8], earlier: &[u8], later: &[u8], set_point: &[u8]) -> Option<Request>
-    ensures { result ≡ request_by zone.now earlier.now later.now set_point.now }
-{
-    let zone = number(zone, LAST_ZONE)?;
-    let earlier = date(earlier)?;
-    let later = date(later)?;
-    let set_point = number(set_point, HIGHEST)?;
-    Some(Request {
-        zone: zone as u8,
-        earlier,
-        later,
-        set_point,
-    })
+impl Words<'_> {
+    ghost use Rattle.degreereport.specs.Views.{request_of};
+
+    /// The request that the words write.
+    pub fn request(&self) -> Option<Request>
+        ensures { result ≡ request_of self.now }
+    {
+        Some(Request {
+            zone: number(self.zone, u16::from(LAST_ZONE))? as u8,
+            earlier: date(self.earlier)?,
+            later: date(self.later)?,
+            set_point: number(self.set_point, HIGHEST_SET_POINT)?,
+        })
+    }
 }

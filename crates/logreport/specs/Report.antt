@@ -67,22 +67,27 @@ zones_lines number (z ∷ zs) = zone_lines (zone_of number z) ++ zones_lines (nu
 
 -- what is refused: a log, or a bill for a day that is unknown
 abbrev pub subject_text : WeatherFault → List ℕ
-subject_text (Unknown zone day) = codes "the bill is refused ("
-subject_text LogTooLong = codes "weather.log is refused ("
-subject_text (BadNumber place) = codes "weather.log is refused ("
-subject_text (OutOfFormat place) = codes "weather.log is refused ("
+subject_text (Unknown zone day) = codes "the bill"
+subject_text LogTooLong = codes "weather.log"
+subject_text (BadNumber place) = codes "weather.log"
+subject_text (OutOfFormat place) = codes "weather.log"
 
--- the line of a refusal: what is refused, its number and its layer, and why
+-- why it is refused
 abbrev pub reason_text : WeatherFault → List ℕ
 reason_text (Unknown zone day) =
-    codes "nothing is known of " ++ (day_text (Dated day) ++ (codes ", day " ++ (decimal day ++ (codes ", in zone " ++ (decimal zone ++ newline)))))
-reason_text LogTooLong = codes "more than 60,000 bytes\n"
-reason_text (BadNumber place) = codes "at byte " ++ (decimal place ++ codes " no whole, shortest number below 2^63 starts\n")
-reason_text (OutOfFormat place) = codes "at byte " ++ (decimal place ++ codes " a number or surplus does not keep to the format\n")
+    codes "nothing is known of " ++ (day_text (Dated day) ++ (codes ", day " ++ (decimal day ++ (codes ", in zone " ++ decimal zone))))
+reason_text LogTooLong = codes "more than 60,000 bytes"
+reason_text (BadNumber place) = codes "at byte " ++ (decimal place ++ codes " no whole, shortest number below 2^63 starts")
+reason_text (OutOfFormat place) = codes "at byte " ++ (decimal place ++ codes " a number or surplus does not keep to the format")
+
+-- a refusal: what is refused, its number and its layer, and why; and its line
+abbrev pub refused_text : WeatherFault → List ℕ
+refused_text fault =
+    subject_text fault ++ (codes " is refused (" ++ (decimal (refusal_of fault).number ++ (codes ", " ++
+    (layer_name (refusal_of fault).layer ++ (codes "): " ++ reason_text fault)))))
 
 abbrev pub refused_line : WeatherFault → List ℕ
-refused_line fault =
-    subject_text fault ++ (decimal (refusal_of fault).number ++ (codes ", " ++ (layer_name (refusal_of fault).layer ++ (codes "): " ++ reason_text fault))))
+refused_line fault = refused_text fault ++ newline
 
 -- the line of an empty log
 abbrev pub empty_line : List ℕ

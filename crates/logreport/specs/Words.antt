@@ -13,13 +13,21 @@ newline = codes "\n"
 abbrev pub fahrenheit : List ℕ
 fahrenheit = codes " " ++ (0xC2 ∷ 0xB0 ∷ codes "F")
 
--- a temperature in tenths as degrees with one decimal, always with its sign
+-- tenths with one decimal
+abbrev pub tenths_text : ℕ → List ℕ
+tenths_text n = decimal (n / 10) ++ (codes "." ++ decimal (n % 10))
+
+-- tenths with one decimal, always with their sign
 abbrev pub sign_text : ℤ → List ℕ
 sign_text (pos n) = codes "+"
 sign_text (negsuc n) = codes "-"
 
+abbrev pub signed_text : ℤ → List ℕ
+signed_text t = sign_text t ++ tenths_text (unsigned_abs t)
+
+-- a temperature in tenths as degrees
 abbrev pub degrees_text : ℤ → List ℕ
-degrees_text t = sign_text t ++ (decimal (unsigned_abs t / 10) ++ (codes "." ++ (decimal (unsigned_abs t % 10) ++ fahrenheit)))
+degrees_text t = signed_text t ++ fahrenheit
 
 -- the name of a month; January is month 1
 abbrev pub month_name : ℕ → List ℕ

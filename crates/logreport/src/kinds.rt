@@ -1,12 +1,21 @@
 //! The parts of a report, each of which is shown as text.
 use logsummary::{Extreme, Gap, Summary};
+use weather::WeatherFault;
+
+/// Tenths, shown with one decimal.
+#[derive(Clone, Copy, Debug, PartialEq, Eq)]
+pub struct Tenths(pub u64);
+
+/// Tenths, shown with their sign and one decimal.
+#[derive(Clone, Copy, Debug, PartialEq, Eq)]
+pub struct SignedTenths(pub i64);
 
 /// A temperature in tenths of a degree Fahrenheit, shown in degrees with its sign.
-#[derive(Clone, Copy)]
+#[derive(Clone, Copy, Debug, PartialEq, Eq)]
 pub struct Degrees(pub i16);
 
 /// A day, shown by its date.
-#[derive(Clone, Copy)]
+#[derive(Clone, Copy, Debug, PartialEq, Eq)]
 pub enum Day {
     /// A day of the calendar, by its number.
     Dated(u64),
@@ -15,11 +24,11 @@ pub enum Day {
 }
 
 /// A number of days.
-#[derive(Clone, Copy)]
+#[derive(Clone, Copy, Debug, PartialEq, Eq)]
 pub struct Days(pub u32);
 
-/// A series of a zone, and the days that its places stand for.
-#[derive(Clone, Copy)]
+/// A series of a zone, shown by its name, and the days that its places stand for.
+#[derive(Clone, Copy, Debug, PartialEq, Eq)]
 pub enum Timeline {
     /// The means of the days from the first on.
     Means { first: u32 },
@@ -28,28 +37,28 @@ pub enum Timeline {
 }
 
 /// The coldest and the warmest of a series, where something is known.
-#[derive(Clone, Copy)]
+#[derive(Clone, Copy, Debug, PartialEq, Eq)]
 pub struct Extremes {
     pub timeline: Timeline,
     pub ends: Option<(Extreme, Extreme)>,
 }
 
 /// The longest gap of a series.
-#[derive(Clone, Copy)]
+#[derive(Clone, Copy, Debug, PartialEq, Eq)]
 pub struct LongestGap {
     pub timeline: Timeline,
     pub gap: Gap,
 }
 
 /// A series of a zone.
-#[derive(Clone, Copy)]
+#[derive(Clone, Copy, Debug, PartialEq, Eq)]
 pub struct SeriesReport {
     pub timeline: Timeline,
     pub summary: Summary,
 }
 
 /// A zone of a log: its number from 0, its first day, its days, and its series.
-#[derive(Clone, Copy)]
+#[derive(Clone, Copy, Debug, PartialEq, Eq)]
 pub struct ZoneReport {
     pub number: usize,
     pub first: u32,
@@ -57,3 +66,7 @@ pub struct ZoneReport {
     pub means: Summary,
     pub normals: Summary,
 }
+
+/// A fault, shown as what is refused for it, by which refusal, and why.
+#[derive(Clone, Copy, Debug, PartialEq, Eq)]
+pub struct Refused(pub WeatherFault);

@@ -1,23 +1,21 @@
 //! What a packed weather log says, in words.
 #![tactic(auto)]
 
-ghost use Rattle.logformat.specs.Reading.{zones_by};
-ghost use Rattle.logreport.specs.Report.{refused_line, report_of, reported, zone_lines};
-ghost use Rattle.std.specs.Prelude.{◌≡◌, ◌++◌, length, IfOk, Ok, string_bytes, OnOk};
+ghost use Rattle.logreport.specs.Report.{refused_line, report_of, reported};
+ghost use Rattle.std.specs.Prelude.{◌≡◌, length, IfOk, Ok, string_bytes};
+ghost use Rattle.weatherlog.specs.Logs.{zones_of};
 
 pub mod kinds;
+mod refusals;
 mod series;
 pub mod words;
 mod zones;
 
-use kinds::{Day, ZoneReport};
+use kinds::Refused;
 use std::alloc::{AllocError, Global};
 use weather::WeatherFault;
 use weatherlog::Log;
 use zones::zone_report;
-
-/// The most zones that a log lists.
-const MOST_ZONES: usize = 16;
 
 /// The report of a log, whatever its bytes.
 pub fn report(heap: Global, bytes: &[u8]) -> Result<String, AllocError>
@@ -31,51 +29,25 @@ pub fn report(heap: Global, bytes: &[u8]) -> Result<String, AllocError>
 
 /// The report of a log that is accepted.
 fn accepted(heap: Global, log: &Log<'_>) -> Result<String, AllocError>
-    ensures { IfOk result (λ s. string_bytes s ≡ reported (length log.now.bytes.now) (Ok (zones_by log.now.bytes.now log.now.layout))) }
+    ensures { IfOk result (λ s. string_bytes s ≡ reported (length log.now.bytes.now) (Ok (zones_of log.now))) }
 {
-    let listed = log.layout.count.min(MOST_ZONES);
-    if listed == 0 {
+    let zones = log.layout.zones();
+    if zones.is_empty() {
         return String::from_str(heap, "weather.log: empty, nothing is known\n");
     }
     let size = log.bytes.len();
+    let listed = zones.len();
     let mut out = format!(in heap; "weather.log: {size} bytes, zones listed: {listed}\n")?;
-    for number in 0..listed {
-        let zone = zone_report(log.bytes, number, log.layout.zones[number]);
-        push_zone(&mut out, &zone)?;
+    for (number, places) in zones.iter().enumerate() {
+        let zone = zone_report(log.bytes, number, *places);
+        write!(out, "{zone}")?;
     }
     Ok(out)
 }
 
-/// Appends the lines of a zone.
-fn push_zone(out: &mut String, zone: &ZoneReport) -> Result<(), AllocError>
-    ensures { OnOk result (string_bytes out.new ≡ string_bytes out.old ++ zone_lines zone.now) }
-{
-    match write!(out, "{zone}") {
-        Ok(()) => Ok(()),
-        Err(_) => Err(AllocError),
-    }
-}
-
-/// The line of a log that is refused, or of a bill for a day that is unknown.
+/// The line of a log that is refused.
 pub fn refused(heap: Global, fault: WeatherFault) -> Result<String, AllocError>
     ensures { IfOk result (λ s. string_bytes s ≡ refused_line fault) }
 {
-    let refusal = fault.refusal();
-    let number = refusal.number;
-    let layer = refusal.layer.name();
-    match fault {
-        WeatherFault::Unknown { zone, day } => format!(in heap;
-            "the bill is refused ({number}, {layer}): nothing is known of {}, day {day}, in zone {zone}\n",
-            Day::Dated(day as u64)
-        ),
-        WeatherFault::LogTooLong => format!(in heap;
-            "weather.log is refused ({number}, {layer}): more than 60,000 bytes\n"
-        ),
-        WeatherFault::BadNumber { place } => format!(in heap;
-            "weather.log is refused ({number}, {layer}): at byte {place} no whole, shortest number below 2^63 starts\n"
-        ),
-        WeatherFault::OutOfFormat { place } => format!(in heap;
-            "weather.log is refused ({number}, {layer}): at byte {place} a number or surplus does not keep to the format\n"
-        ),
-    }
+    format!(in heap; "{}\n", Refused(fault))
 }

@@ -6,23 +6,24 @@ use crate::kinds::{Day, Days, Degrees, Extremes, LongestGap, SeriesReport, Timel
 use std::fmt;
 
 impl Timeline {
-    /// The name of the series.
-    fn name(self) -> &'static str
-        ensures { result.now ≡ series_name self }
-    {
-        match self {
-            Timeline::Means { .. } => "means",
-            Timeline::Normals => "normals",
-        }
-    }
-
     /// The day that a place of the series stands for.
     fn day_at(self, place: u32) -> Day
         ensures { result ≡ day_at self place }
     {
         match self {
-            Timeline::Means { first } => Day::Dated(first as u64 + place as u64),
-            Timeline::Normals => Day::Yearly(place as u64),
+            Timeline::Means { first } => Day::Dated(u64::from(first) + u64::from(place)),
+            Timeline::Normals => Day::Yearly(u64::from(place)),
+        }
+    }
+}
+
+impl fmt::Display for Timeline {
+    ghost output = { λ x. Some (series_name x) };
+
+    fn fmt<W: fmt::Write>(&self, f: &mut fmt::Formatter<W>) -> fmt::Result {
+        match self {
+            Timeline::Means { .. } => write!(f, "means"),
+            Timeline::Normals => write!(f, "normals"),
         }
     }
 }
@@ -62,9 +63,9 @@ impl fmt::Display for LongestGap {
 impl fmt::Display for SeriesReport {
     ghost output = { λ x. Some (series_lines x.timeline x.summary) };
 
+    #[tactic(auto, unfolding(crate::specs::Report::series_lines))]
     fn fmt<W: fmt::Write>(&self, f: &mut fmt::Formatter<W>) -> fmt::Result {
-        let timeline = self.timeline;
-        let summary = self.summary;
+        let SeriesReport { timeline, summary } = *self;
         let extremes = Extremes {
             timeline,
             ends: summary.coldest.zip(summary.warmest),
@@ -75,11 +76,8 @@ impl fmt::Display for SeriesReport {
         };
         write!(
             f,
-            "  {}: {} known, {} unknown, {} below 0 °F\n{extremes}{longest}",
-            timeline.name(),
-            summary.known,
-            summary.unknown,
-            summary.subzero
+            "  {timeline}: {} known, {} unknown, {} below 0 °F\n{extremes}{longest}",
+            summary.known, summary.unknown, summary.subzero
         )
     }
 }

@@ -1,35 +1,56 @@
 //! How temperatures and days are shown.
-ghost use Rattle.logreport.specs.Words.{day_text, days_text, degrees_text, month_name, sign_text};
-ghost use Rattle.std.specs.Prelude.{◌≡◌, Some};
+ghost use Rattle.logreport.specs.Words.{day_text, days_text, degrees_text, month_name, sign_text, signed_text, tenths_text};
+ghost use Rattle.std.specs.Prelude.{◌≡◌, ◌≤◌, Some};
 
-use crate::kinds::{Day, Days, Degrees};
+use crate::kinds::{Day, Days, Degrees, SignedTenths, Tenths};
 use calendar::date_of;
 use std::fmt;
 
-/// The sign of a temperature.
-fn sign(tenths: i16) -> &'static str
-    ensures { result.now ≡ sign_text tenths }
-{
-    if tenths < 0 { "-" } else { "+" }
-}
+/// The names of the months, from January on.
+const MONTHS: [&str; 12] = [
+    "January",
+    "February",
+    "March",
+    "April",
+    "May",
+    "June",
+    "July",
+    "August",
+    "September",
+    "October",
+    "November",
+    "December",
+];
 
 /// The name of a month; January is month 1.
 fn month_name(month: u8) -> &'static str
+    requires from { 1 ≤ month }
+    requires to { month ≤ 12 }
     ensures { result.now ≡ month_name month }
 {
-    match month {
-        1 => "January",
-        2 => "February",
-        3 => "March",
-        4 => "April",
-        5 => "May",
-        6 => "June",
-        7 => "July",
-        8 => "August",
-        9 => "September",
-        10 => "October",
-        11 => "November",
-        _ => "December",
+    MONTHS[usize::from(month) - 1]
+}
+
+/// The sign of a number.
+fn sign(number: i64) -> &'static str
+    ensures { result.now ≡ sign_text number }
+{
+    if number < 0 { "-" } else { "+" }
+}
+
+impl fmt::Display for Tenths {
+    ghost output = { λ x. Some (tenths_text x.0) };
+
+    fn fmt<W: fmt::Write>(&self, f: &mut fmt::Formatter<W>) -> fmt::Result {
+        write!(f, "{}.{}", self.0 / 10, self.0 % 10)
+    }
+}
+
+impl fmt::Display for SignedTenths {
+    ghost output = { λ x. Some (signed_text x.0) };
+
+    fn fmt<W: fmt::Write>(&self, f: &mut fmt::Formatter<W>) -> fmt::Result {
+        write!(f, "{}{}", sign(self.0), Tenths(self.0.unsigned_abs()))
     }
 }
 
@@ -37,8 +58,7 @@ impl fmt::Display for Degrees {
     ghost output = { λ x. Some (degrees_text x.0) };
 
     fn fmt<W: fmt::Write>(&self, f: &mut fmt::Formatter<W>) -> fmt::Result {
-        let tenths = self.0.unsigned_abs();
-        write!(f, "{}{}.{} °F", sign(self.0), tenths / 10, tenths % 10)
+        write!(f, "{} °F", SignedTenths(i64::from(self.0)))
     }
 }
 
@@ -46,15 +66,14 @@ impl fmt::Display for Day {
     ghost output = { λ x. Some (day_text x) };
 
     fn fmt<W: fmt::Write>(&self, f: &mut fmt::Formatter<W>) -> fmt::Result {
+        let (Day::Dated(number) | Day::Yearly(number)) = *self;
+        let Ok(date) = date_of(number) else {
+            return write!(f, "day {number}");
+        };
+        let month = month_name(date.month);
         match self {
-            Day::Dated(day) => match date_of(*day) {
-                Ok(date) => write!(f, "{} {} {}", date.day, month_name(date.month), date.year),
-                Err(_) => write!(f, "day {day}"),
-            },
-            Day::Yearly(day) => match date_of(*day) {
-                Ok(date) => write!(f, "{} {}", date.day, month_name(date.month)),
-                Err(_) => write!(f, "day {day}"),
-            },
+            Day::Dated(_) => write!(f, "{} {month} {}", date.day, date.year),
+            Day::Yearly(_) => write!(f, "{} {month}", date.day),
         }
     }
 }

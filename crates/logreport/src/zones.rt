@@ -4,16 +4,15 @@ ghost use Rattle.logreport.specs.Report.{zone_lines, zone_of};
 ghost use Rattle.std.specs.Prelude.{◌≡◌, Some};
 
 use crate::kinds::{Day, Days, SeriesReport, Timeline, ZoneReport};
-use logformat::{Series, ZonePlaces};
+use logformat::ZonePlaces;
+use logseries::PackedSeries;
 use logsummary::summary;
 use std::fmt;
-
-/// The normals that each zone has.
-const NORMALS: u32 = 366;
 
 impl fmt::Display for ZoneReport {
     ghost output = { λ x. Some (zone_lines x) };
 
+    #[tactic(auto, unfolding(crate::specs::Report::zone_lines))]
     fn fmt<W: fmt::Write>(&self, f: &mut fmt::Formatter<W>) -> fmt::Result {
         let means = SeriesReport {
             timeline: Timeline::Means { first: self.first },
@@ -26,8 +25,8 @@ impl fmt::Display for ZoneReport {
         if self.days == 0 {
             return write!(f, "zone {}: no days\n{means}{normals}", self.number);
         }
-        let first = Day::Dated(self.first as u64);
-        let last = Day::Dated(self.first as u64 + self.days as u64 - 1);
+        let first = Day::Dated(u64::from(self.first));
+        let last = Day::Dated(u64::from(self.first) + u64::from(self.days) - 1);
         write!(
             f,
             "zone {}: {}, {first} to {last}\n{means}{normals}",
@@ -41,8 +40,8 @@ impl fmt::Display for ZoneReport {
 pub fn zone_report(bytes: &[u8], number: usize, places: ZonePlaces) -> ZoneReport
     ensures { result ≡ zone_of number (zone_by bytes.now places) }
 {
-    let means = summary(bytes, Series::Means, places.count, places.means);
-    let normals = summary(bytes, Series::Normals, NORMALS, places.normals);
+    let means = summary(PackedSeries::means(bytes, places.count, places.means));
+    let normals = summary(PackedSeries::normals(bytes, places.normals));
     ZoneReport {
         number,
         first: places.first,

@@ -2,6 +2,7 @@
 //! or, given a zone, two read dates and a set point, the degree days of that bill.
 #![tactic(auto)]
 
+use degreereport::Words;
 use logfile::read_log;
 use std::alloc::{AllocError, Global};
 use std::io::Write;
@@ -11,23 +12,21 @@ use std::{env, io};
 fn written(heap: Global, log: &[u8], words: &[String]) -> Result<String, AllocError> {
     match words {
         [] | [_] => logreport::report(heap, log),
-        [_, zone, earlier, later, set_point] => degreereport::asked(
-            heap,
-            log,
-            zone.as_bytes(),
-            earlier.as_bytes(),
-            later.as_bytes(),
-            set_point.as_bytes(),
-        ),
+        [_, zone, earlier, later, set_point] => {
+            let words = Words {
+                zone: zone.as_bytes(),
+                earlier: earlier.as_bytes(),
+                later: later.as_bytes(),
+                set_point: set_point.as_bytes(),
+            };
+            degreereport::asked(heap, log, &words)
+        }
         _ => degreereport::usage(heap),
     }
 }
 
 fn main(rt: HostRuntime) -> io::Result<()> {
-    let mut words = Vec::new(rt.alloc());
-    for word in env::args(&rt)? {
-        words.push(word)?;
-    }
+    let words: Vec<String> = env::args(&rt)?.collect(rt.alloc())?;
     let log = read_log(&rt)?;
     let text = written(rt.alloc(), log.as_slice(), words.as_slice())?;
     rt.stdout().write_all(text.as_bytes())

@@ -4,4 +4,7 @@ use Rattle.degreereport.specs.Requests.{read_on}
 use Rattle.degreereport.proofs.requests.number.Given as goal
 
 abbrev pub invariant-loop-byte : goal.invariant-loop-byte
-invariant-loop-byte l = (read_on l.most 0 l.bytes ≡ read_on l.most l.value (drop l.byte-index l.bytes)) × (l.value ≤ l.most)
+invariant-loop-byte l = record {
+  read : read_on l.most 0 l.bytes ≡ read_on l.most l.value (drop l.byte-index l.bytes);
+  small : l.value ≤ l.most;
+}

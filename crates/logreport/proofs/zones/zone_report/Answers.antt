@@ -9,9 +9,11 @@ pub overflow_add-result : goal.overflow_add-result
 overflow_add-result c =
     let places = c.args.places in
     let fits : Fits w32 places.count = search rules in
-    omega (arith, places_counted _ _ c.summary-means.ensures.meaning, places_bounded Means c.args.bytes.now places.count places.means)
+    let days = rw c.means.ensures at (places_counted _ _ c.summary-means.ensures.meaning) in
+    omega (arith, days, places_bounded Means c.args.bytes.now places.count places.means)
 
 pub returns : goal.returns
 returns c =
-    let zone = zone_by c.args.bytes.now c.args.places in
-    zone_reported c.args.number zone _ _ c.summary-means.ensures.meaning c.summary-means.ensures.value c.summary-normals.ensures.value
+    let means = rw c.means.ensures at c.summary-means.ensures in
+    let normals = rw c.normals.ensures at c.summary-normals.ensures.value in
+    zone_reported c.args.number (zone_by c.args.bytes.now c.args.places) _ _ means.meaning means.value normals
