@@ -1,6 +1,6 @@
 -- What a station's table means, and a source with a stand-in.
 use Rattle.std.specs.Prelude.{ℕ, ◌-◌, cond, ◌&&◌, List, length, ℤ, pos, Some, None, Option, ◌==◌, nat_le, nat_lt, slice_index_or}
-use Rattle.weather.specs.Temperatures.{Ranged, in_range}
+use Rattle.weather.specs.Temperatures.{in_range}
 
 -- the temperature at a place of a list: unknown past its end and out of range
 abbrev pub temp_at : List ℤ → ℕ → Option ℤ
@@ -20,8 +20,3 @@ table_normal own normals zone place =
 abbrev pub or_else : Option ℤ → Option ℤ → Option ℤ
 or_else (Some t) other = Some t
 or_else None other = other
-
--- what either of two sources knows is ranged, where what each knows is
-pub Ranged-or_else : (zone at first last : ℕ) (a b : Option ℤ) → Ranged zone at first last a → Ranged zone at first last b → Ranged zone at first last (or_else a b)
-Ranged-or_else zone at first last (Some t) b known other = known
-Ranged-or_else zone at first last None b known other = other

@@ -1,8 +1,7 @@
 //! Weather sources beside the packed log: a station's table, and a source with a stand-in.
 #![tactic(auto)]
 
-ghost use Rattle.sources.specs.Tables.{Ranged-or_else, or_else, table_mean, table_normal, temp_at};
-ghost use Rattle.std.proofs.Common.{rules};
+ghost use Rattle.sources.specs.Tables.{or_else, table_mean, table_normal, temp_at};
 ghost use Rattle.std.specs.Prelude.{◌≡◌};
 
 pub mod kinds;
@@ -23,10 +22,6 @@ impl Source for StationTable<'_> {
 
     ghost normal = { λ s zone place. table_normal s.zone s.normals.now zone place };
 
-    ghost means_ranged = { Prim.search rules };
-
-    ghost normals_ranged = { Prim.search rules };
-
     fn mean_on(&self, zone: u8, day: u32) -> Option<i16> {
         if zone > LAST_ZONE || zone != self.zone || day > LAST_DAY {
             return None;
@@ -40,16 +35,14 @@ impl Source for StationTable<'_> {
         }
         told_at(self.normals, place.checked_sub(1)? as usize)
     }
+
+    fn show_range(&self) {}
 }
 
 impl<F: Source, G: Source> Source for StandIn<F, G> {
     ghost mean = { λ s zone day. or_else (F.Source.mean s.first zone day) (G.Source.mean s.second zone day) };
 
     ghost normal = { λ s zone place. or_else (F.Source.normal s.first zone place) (G.Source.normal s.second zone place) };
-
-    ghost means_ranged = { λ s zone day. Ranged-or_else zone day 0 36524 _ _ (F.Source.means_ranged s.first zone day) (G.Source.means_ranged s.second zone day) };
-
-    ghost normals_ranged = { λ s zone place. Ranged-or_else zone place 1 366 _ _ (F.Source.normals_ranged s.first zone place) (G.Source.normals_ranged s.second zone place) };
 
     fn mean_on(&self, zone: u8, day: u32) -> Option<i16> {
         let mean = self.first.mean_on(zone, day);
@@ -59,5 +52,10 @@ impl<F: Source, G: Source> Source for StandIn<F, G> {
     fn normal_at(&self, zone: u8, place: u16) -> Option<i16> {
         let normal = self.first.normal_at(zone, place);
         normal.or_else(|| self.second.normal_at(zone, place))
+    }
+
+    fn show_range(&self) {
+        self.first.show_range();
+        self.second.show_range();
     }
 }

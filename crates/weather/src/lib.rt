@@ -41,9 +41,11 @@ pub trait Source {
         ensures meaning { result ≡ normal self.now zone place }
         ensures ranged { Ranged zone place 1 366 result };
 
-    ghost means_ranged: { (s : Self) → AllRanged 0 36524 (mean s) };
-
-    ghost normals_ranged: { (s : Self) → AllRanged 1 366 (normal s) };
+    /// Shows the range of all that the source means, whatever is asked. A law would ask this of
+    /// every value of the logic, and so of values that a source's own fields cannot have.
+    fn show_range(&self)
+        ensures means { AllRanged 0 36524 (mean self.now) }
+        ensures normals { AllRanged 1 366 (normal self.now) };
 }
 
 /// A source that is lent is a source, and means the same.
@@ -52,16 +54,16 @@ impl<W: Source> Source for &W {
 
     ghost normal = { λ s zone place. W.Source.normal s.now zone place };
 
-    ghost means_ranged = { λ s. W.Source.means_ranged s.now };
-
-    ghost normals_ranged = { λ s. W.Source.normals_ranged s.now };
-
     fn mean_on(&self, zone: u8, day: u32) -> Option<i16> {
         (**self).mean_on(zone, day)
     }
 
     fn normal_at(&self, zone: u8, place: u16) -> Option<i16> {
         (**self).normal_at(zone, place)
+    }
+
+    fn show_range(&self) {
+        (**self).show_range();
     }
 }
 
