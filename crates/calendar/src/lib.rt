@@ -155,8 +155,9 @@ pub fn in_season(day: u64) -> Result<bool, CalendarFault>
     ensures value { result ≡ in_calendar day (in_season (date_of day)) }
 {
     let date = date_of(day)?;
-    let month_and_day = (date.month, date.day);
-    Ok(month_and_day >= SEASON_START || month_and_day <= SEASON_END)
+    // The season begins with the first day of a month.
+    let (first_month, _) = SEASON_START;
+    Ok(date.month >= first_month || (date.month, date.day) <= SEASON_END)
 }
 
 /// The effective day of an ordinary notice: 1 December of its year, and after 30 September that of the next.
