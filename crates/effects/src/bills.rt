@@ -106,7 +106,7 @@ pub fn gap_bills(colder: i16) -> Option<GapBills> {
 pub fn bill<S: Sheet>(sheet: &S, variance: i32, figures: Figures) -> Option<Amounts> {
     let period = Period::new(DECEMBER_25 as u64, JANUARY_24 as u64)?;
     let checked = CheckedFigures::try_from(figures).ok()?;
-    let formula = formula_amount(variance, S::RESIDENTIAL, period, checked);
+    let formula = formula_amount(variance, S::terms(Class::Residential), period, checked);
     let billing_rate = billing_rate(checked, 0)?;
     Some(amounts_of(sheet, Class::Residential, formula, checked, billing_rate, 0))
 }

@@ -8,7 +8,7 @@ mod worked;
 
 use bills::{DECEMBER_25, JANUARY_24, gap_bills, weather_bill};
 use period::Period;
-use refusal::Refusal;
+use refusal::{Layer, Refusal};
 use std::io;
 use tables::{Row, Table, residential_195, tables};
 use tariff::Status;
@@ -20,6 +20,14 @@ const COLDER: i16 = 500;
 
 /// The formula amount then of a residential bill by Schedule 195.
 const COLDER_AMOUNT: i64 = -627_984;
+
+/// The refusal of a bill whose first day the station of zone 0 did not read.
+const UNKNOWN_DAY: Refusal = Refusal {
+    number: 11,
+    layer: Layer::Weather,
+    first: 0,
+    second: DECEMBER_25 as u64 + 1,
+};
 
 /// The word for a comparison.
 fn verdict(agrees: bool) -> &'static str {
@@ -154,13 +162,12 @@ fn run_alone(rt: &impl Print, alone: Result<i64, WeatherFault>) -> io::Result<()
         Ok(amount) => println!(rt; "alone: {amount}, {}", verdict(false)),
         Err(fault) => {
             let refusal = Refusal::from(fault);
-            let day = DECEMBER_25 + 1;
             println!(rt;
                 "alone: refused with {}, zone {}, day {}, {}",
                 refusal.number,
                 refusal.first,
                 refusal.second,
-                verdict(fault == WeatherFault::Unknown { zone: 0, day })
+                verdict(refusal == UNKNOWN_DAY)
             )
         }
     }

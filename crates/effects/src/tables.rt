@@ -1,5 +1,5 @@
 //! The tables of bill effects, as the schedules print them.
-use tariff::{Schedule195, Schedule240, Sheet, Terms};
+use tariff::{Class, Schedule195, Schedule240, Sheet, Terms};
 
 /// A row: the variance in degree days, the equivalent therms in ten-thousandths, and the adjustment in cents.
 #[derive(Clone, Copy, PartialEq, Eq)]
@@ -96,7 +96,7 @@ const COMMERCIAL_240: [Row; 11] = [
 pub fn residential_195() -> Table {
     Table {
         title: "Schedule 195, residential",
-        terms: <Schedule195 as Sheet>::RESIDENTIAL,
+        terms: <Schedule195 as Sheet>::terms(Class::Residential),
         margin: MARGIN_195,
         rows: RESIDENTIAL_195,
     }
@@ -108,19 +108,19 @@ pub fn tables() -> [Table; 4] {
         residential_195(),
         Table {
             title: "Schedule 195, commercial",
-            terms: <Schedule195 as Sheet>::COMMERCIAL,
+            terms: <Schedule195 as Sheet>::terms(Class::Commercial),
             margin: 70_824,
             rows: COMMERCIAL_195,
         },
         Table {
             title: "Schedule 240, residential",
-            terms: <Schedule240 as Sheet>::RESIDENTIAL,
+            terms: <Schedule240 as Sheet>::terms(Class::Residential),
             margin: 36_340,
             rows: RESIDENTIAL_240,
         },
         Table {
             title: "Schedule 240, commercial",
-            terms: <Schedule240 as Sheet>::COMMERCIAL,
+            terms: <Schedule240 as Sheet>::terms(Class::Commercial),
             margin: 41_086,
             rows: COMMERCIAL_240,
         },
