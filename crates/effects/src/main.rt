@@ -21,12 +21,12 @@ const COLDER: i16 = 500;
 /// The formula amount then of a residential bill by Schedule 195.
 const COLDER_AMOUNT: i64 = -627_984;
 
-/// The refusal of a bill whose first day the station of zone 0 did not read.
+/// The refusal of a bill whose first day, 26 December 2024, the station of zone 0 did not read.
 const UNKNOWN_DAY: Refusal = Refusal {
     number: 11,
     layer: Layer::Weather,
     first: 0,
-    second: DECEMBER_25 as u64 + 1,
+    second: 9_126,
 };
 
 /// The word for a comparison.
